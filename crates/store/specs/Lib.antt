@@ -1,0 +1,11 @@
+-- Definitions: a well-formed store, and what following answers.
+pub mod All
+pub mod Store
+pub mod Follow
+-- Laws of them.
+pub mod Zeros
+pub mod Steps
+pub mod Pigeon
+pub mod Ends
+pub mod WellFormed
+pub mod Over

@@ -1,0 +1,55 @@
+-- Laws of steps along Vars: they come to used cells, and stay where one stays.
+use mathlib.Core.Path.{_≡_, refl, ap, ap₂, _∙_}
+use mathlib.Core.Bool.{true, _&&_, and-eq-true-iff}
+use mathlib.Core.List.{List}
+use Prim.Native.Nat.{ℕ, zero, suc, _+_, _-_, _<_, _≤_}
+use native.Mathlib.Omega.{arith}
+use lib.Dec.{leb, ltb, eqb}
+use borrow.Author.Tests.{ltb-true, leb-true}
+use Rattle.cell.specs.declared.Kind.{Kind}
+use Rattle.cell.specs.declared.Kind.the-variants.{Var, Str, Lis, Atom, Fixnum, Bad}
+use Rattle.store.specs.All.{all-holds}
+use Rattle.store.specs.Store.{kindAt, keepsAt, endOf, noHeader, termAt, keeps, step, stepKind, steps, endsAt, cellsKeep}
+
+module _ (s : List ℕ) where
+  pub steps-split : (i : ℕ) {n top : ℕ} → n < top → steps s (top - n) i ≡ steps s (top - (n + 1)) (step s i)
+  unfolding steps
+  steps-split i {n} {top} h = let z : top - n ≡ suc (top - (n + 1)) = omega arith in rw z
+
+  pub steps-fixed : (n i : ℕ) → step s i ≡ i → steps s n i ≡ i
+  unfolding steps
+  steps-fixed zero i e = refl
+  steps-fixed (suc n) i e = rw e (steps-fixed n i e)
+
+  pub steps-done : (i : ℕ) {n top : ℕ} → top ≤ n → steps s (top - n) i ≡ i
+  unfolding steps
+  steps-done i {n} {top} h = let z : top - n ≡ 0 = omega arith in rw z
+
+  -- a used cell from 1 goes to a used cell from 1
+  pub term-used : (top v : ℕ) → termAt s top v ≡ true → (1 ≤ v) × (v < top)
+  unfolding termAt
+  term-used top v h =
+      let a = and-eq-true-iff (leb 1 v && ltb v top) (noHeader s v) .0 h .0 in
+      let b = and-eq-true-iff (leb 1 v) (ltb v top) .0 a in
+      (leb-true 1 v (b .0), ltb-true v top (b .1))
+
+  keeps-used : (top i : ℕ) → 1 ≤ i → i < top → (k : Kind) → keeps s top i k ≡ true → (1 ≤ stepKind i k) × (stepKind i k < top)
+  unfolding keeps stepKind
+  keeps-used top i l h (Var v) e = term-used top v e
+  keeps-used top i l h (Str v) e = (l, h)
+  keeps-used top i l h (Lis v) e = (l, h)
+  keeps-used top i l h (Atom n a) e = (l, h)
+  keeps-used top i l h (Fixnum z) e = (l, h)
+  keeps-used top i l h Bad e = (l, h)
+
+  pub keeps-all : (top : ℕ) → cellsKeep s 1 top ≡ true → (i : ℕ) → 1 ≤ i → i < top → keeps s top i (kindAt s i) ≡ true
+  unfolding cellsKeep
+  keeps-all top all i l h = all-holds (keepsAt s top) (top - 1) 1 all i l (omega arith)
+
+  pub step-used : (top : ℕ) → cellsKeep s 1 top ≡ true → (i : ℕ) → 1 ≤ i → i < top → (1 ≤ step s i) × (step s i < top)
+  unfolding step
+  step-used top all i l h = keeps-used top i l h (kindAt s i) (keeps-all top all i l h)
+
+  pub ends-is : (top at e n : ℕ) → e ≡ endOf s top at → n ≡ step s e → eqb n e ≡ endsAt s top at
+  unfolding endsAt
+  ends-is top at e n p q = ap₂ eqb (q ∙ ap (step s) p) p
