@@ -1,0 +1,131 @@
+-- The rules of the trail, the marks and the whole store as facts: what a reader takes for their definition. Each is proved to be the same as its test in specs/Rules.antt.
+use mathlib.Core.Path.{_≡_, sym, ap}
+use mathlib.Core.Bool.{true, not, _&&_, and-eq-true-iff}
+use mathlib.Core.List.{List}
+use Prim.Native.Nat.{ℕ, _*_, _<_, _≤_}
+use native.Mathlib.Omega.{arith}
+use lib.ListN.{length, getD}
+use lib.Dec.{leb, ltb, eqb}
+use borrow.Author.Tests.{leb-true, le-leb, ltb-true, eqb-false, ne-eqb, not-true}
+use Rattle.store.specs.All.{all-holds, all-true}
+use Rattle.store.specs.Store.{zeroFrom, wellFormed}
+use Rattle.store.specs.Zeros.{zeros, zeros-back}
+use Rattle.trail.specs.declared.Answer.the-variants.{Done}
+use Rattle.trail.specs.Rules.{namesBound, entryNew, entryKeeps, trailUsed, trailGood, markWidth, markTop, markTrail, topBefore, trailBefore, rises, markGood, marksGood}
+use Rattle.trail.specs.State.{State, cellsHold, trailHolds, holds, checkOf, check-done}
+
+-- ---- the trail
+pub record TrailGood (cells : List ℕ) (top : ℕ) (trail : List ℕ) (trailed : ℕ) : Type 0 where
+  -- the count fits the lent length
+  pub fits : trailed ≤ length trail
+  -- each entry is a used cell from 1 that is no unbound Var
+  pub bound : (i : ℕ) → i < trailed → namesBound cells top (getD trail i 0) ≡ true
+  -- all are different
+  pub apart : (i j : ℕ) → j < i → i < trailed → getD trail j 0 ≡ getD trail i 0 → ⊥
+  -- the rest is 0
+  pub rest : (i : ℕ) → trailed ≤ i → getD trail i 0 ≡ 0
+
+pub bound-used : (cells : List ℕ) (top e : ℕ) → namesBound cells top e ≡ true → (1 ≤ e) × (e < top)
+unfolding namesBound
+bound-used cells top e h =
+    let a = and-eq-true-iff (leb 1 e && ltb e top) _ .0 h .0 in
+    let b = and-eq-true-iff (leb 1 e) (ltb e top) .0 a in
+    (leb-true 1 e (b .0), ltb-true e top (b .1))
+
+module _ (cells : List ℕ) (top : ℕ) (trail : List ℕ) where
+  new-apart : (i : ℕ) → entryNew trail i ≡ true → (j : ℕ) → j < i → getD trail j 0 ≡ getD trail i 0 → ⊥
+  unfolding entryNew
+  new-apart i h j l = eqb-false _ _ (not-true _ (all-holds (λ k. not (eqb (getD trail k 0) (getD trail i 0))) i 0 h j (omega arith) (omega arith)))
+
+  apart-new : (i : ℕ) → ((j : ℕ) → j < i → getD trail j 0 ≡ getD trail i 0 → ⊥) → entryNew trail i ≡ true
+  unfolding entryNew
+  apart-new i h = all-true (λ k. not (eqb (getD trail k 0) (getD trail i 0))) i 0 (λ j _ b. ap not (ne-eqb _ _ (h j (omega arith))))
+
+  -- what the test of the used entries says
+  pub used-facts : (trailed : ℕ) → trailUsed cells top trail trailed ≡ true → (trailed ≤ length trail) × ((i : ℕ) → i < trailed → namesBound cells top (getD trail i 0) ≡ true) × ((i j : ℕ) → j < i → i < trailed → getD trail j 0 ≡ getD trail i 0 → ⊥)
+  unfolding trailUsed
+  used-facts trailed h =
+      let a = and-eq-true-iff (leb trailed (length trail)) _ .0 h in
+      let each : (i : ℕ) → i < trailed → (namesBound cells top (getD trail i 0) ≡ true) × (entryNew trail i ≡ true) =
+      λ i l. and-eq-true-iff (namesBound cells top (getD trail i 0)) (entryNew trail i) .0 (all-holds (entryKeeps cells top trail) trailed 0 (a .1) i (omega arith) (omega arith)) in
+      (leb-true _ _ (a .0), λ i l. each i l .0, λ i j g l. new-apart i (each i l .1) j g)
+
+  pub used-test : (trailed : ℕ) → trailed ≤ length trail → ((i : ℕ) → i < trailed → namesBound cells top (getD trail i 0) ≡ true) → ((i j : ℕ) → j < i → i < trailed → getD trail j 0 ≡ getD trail i 0 → ⊥) → trailUsed cells top trail trailed ≡ true
+  unfolding trailUsed
+  used-test trailed f b a =
+      rw (le-leb trailed (length trail) f)
+      (all-true (entryKeeps cells top trail) trailed 0 (λ i _ l. and-eq-true-iff (namesBound cells top (getD trail i 0)) (entryNew trail i) .1 (b i (omega arith), apart-new i (λ j g. a i j g (omega arith)))))
+
+  module _ (trailed : ℕ) where
+    pub trail-parts : trailGood cells top trail trailed ≡ true → TrailGood cells top trail trailed
+    unfolding trailGood
+    trail-parts h =
+        let b = and-eq-true-iff (trailUsed cells top trail trailed) (zeroFrom trail trailed) .0 h in
+        let u = used-facts trailed (b .0) in
+        record { fits = u .0; bound = u .1; apart = u .2; rest = zeros trail trailed (b .1) }
+
+    pub trail-whole : TrailGood cells top trail trailed → trailGood cells top trail trailed ≡ true
+    unfolding trailGood
+    trail-whole t = rw (used-test trailed (t .fits) (t .bound) (t .apart)) (zeros-back trail trailed (t .rest))
+
+-- ---- the marks
+pub record MarkGood (top trailed : ℕ) (marks : List ℕ) (m : ℕ) : Type 0 where
+  -- never falling from one mark to the next
+  pub top-rises : topBefore marks m ≤ markTop marks m
+  pub trail-rises : trailBefore marks m ≤ markTrail marks m
+  -- nor above the present counts
+  pub top-within : markTop marks m ≤ top
+  pub trail-within : markTrail marks m ≤ trailed
+
+pub record MarksGood (top trailed : ℕ) (marks : List ℕ) (marked : ℕ) : Type 0 where
+  -- the marks fit the lent length
+  pub fits : markWidth * marked ≤ length marks
+  pub each : (m : ℕ) → m < marked → MarkGood top trailed marks m
+  -- the rest is 0
+  pub rest : (i : ℕ) → markWidth * marked ≤ i → getD marks i 0 ≡ 0
+
+module _ (top trailed : ℕ) (marks : List ℕ) where
+  mark-parts : (m : ℕ) → markGood top trailed marks m ≡ true → MarkGood top trailed marks m
+  unfolding markGood rises
+  mark-parts m h =
+      let c = and-eq-true-iff (rises (topBefore marks m) (markTop marks m) top) (rises (trailBefore marks m) (markTrail marks m) trailed) .0 h in
+      let a = and-eq-true-iff (leb (topBefore marks m) (markTop marks m)) _ .0 (c .0) in
+      let b = and-eq-true-iff (leb (trailBefore marks m) (markTrail marks m)) _ .0 (c .1) in
+      record { top-rises = leb-true _ _ (a .0); trail-rises = leb-true _ _ (b .0); top-within = leb-true _ _ (a .1); trail-within = leb-true _ _ (b .1) }
+
+  mark-whole : (m : ℕ) → MarkGood top trailed marks m → markGood top trailed marks m ≡ true
+  unfolding markGood rises
+  mark-whole m g = rw (le-leb (topBefore marks m) (markTop marks m) (g .top-rises), le-leb (trailBefore marks m) (markTrail marks m) (g .trail-rises), le-leb (markTop marks m) top (g .top-within)) (le-leb (markTrail marks m) trailed (g .trail-within))
+
+  pub marks-parts : (n : ℕ) → marksGood top trailed marks n ≡ true → MarksGood top trailed marks n
+  unfolding marksGood
+  marks-parts n h =
+      let b = and-eq-true-iff _ (zeroFrom marks (markWidth * n)) .0 h in
+      let a = and-eq-true-iff (leb (markWidth * n) (length marks)) _ .0 (b .0) in
+      record { fits = leb-true _ _ (a .0); each = λ m l. mark-parts m (all-holds (markGood top trailed marks) n 0 (a .1) m (omega arith) (omega arith)); rest = zeros marks (markWidth * n) (b .1) }
+
+  pub marks-whole : (n : ℕ) → MarksGood top trailed marks n → marksGood top trailed marks n ≡ true
+  unfolding marksGood
+  marks-whole n g = rw (le-leb (markWidth * n) (length marks) (g .fits), all-true (markGood top trailed marks) n 0 (λ m _ l. mark-whole m (g .each m (omega arith)))) (zeros-back marks (markWidth * n) (g .rest))
+
+-- ---- the whole store
+pub record Holds (s : State) : Type 0 where
+  pub cells-good : wellFormed (s .cells) (s .top) ≡ true
+  pub trail-good : TrailGood (s .cells) (s .top) (s .trail) (s .trailed)
+  pub marks-good : MarksGood (s .top) (s .trailed) (s .marks) (s .marked)
+
+module _ (s : State) where
+  pub holds-parts : holds s ≡ true → Holds s
+  holds-parts h =
+      let a = and-eq-true-iff (cellsHold s) (trailHolds s) .0 h in
+      let b = and-eq-true-iff (trailGood (s .cells) (s .top) (s .trail) (s .trailed)) (marksGood (s .top) (s .trailed) (s .marks) (s .marked)) .0 (a .1) in
+      record { cells-good = a .0; trail-good = trail-parts _ _ _ _ (b .0); marks-good = marks-parts _ _ _ _ (b .1) }
+
+  trail-holds : Holds s → trailHolds s ≡ true
+  trail-holds h = rw (trail-whole _ _ _ _ (h .trail-good)) (marks-whole _ _ _ _ (h .marks-good))
+
+  pub holds-whole : Holds s → holds s ≡ true
+  holds-whole h = rw (h .cells-good) (trail-holds h)
+
+  pub check-holds : Holds s → checkOf s ≡ Done
+  check-holds h = sym (check-done s (h .cells-good) (trail-holds h))
