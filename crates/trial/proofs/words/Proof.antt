@@ -1,0 +1,59 @@
+-- `trial::words` meets its contract, which asks only that it is safe and ends.
+use Prim.Native.Nat.{_-_, _≤_}
+use lib.ListN.{length}
+use borrow.Author.Needs.{needs}
+use Rattle.trial.proofs.words.Statement.{statement}
+use Rattle.trial.proofs.words.Tie as tie
+
+abbrev Inv-loop : tie.InvT-loop
+Inv-loop name list i₀ i = i ≤ length list
+
+abbrev μ-loop : tie.MeasureT-loop
+μ-loop name list i₀ i = length list - i
+
+say-requires : tie.Need-say-requires Inv-loop μ-loop
+say-requires c κs = search needs
+
+loop-holds : tie.Need-loop-holds Inv-loop μ-loop
+loop-holds c = search needs
+
+mul-spaced : tie.Need-mul-spaced Inv-loop μ-loop
+mul-spaced c = search needs
+
+shared-slice-read-spaced : tie.Need-shared-slice-read-spaced Inv-loop μ-loop
+shared-slice-read-spaced c = search needs
+
+spaced-requires : tie.Need-spaced-requires Inv-loop μ-loop
+spaced-requires c κs = search needs
+
+add-i : tie.Need-add-i Inv-loop μ-loop
+add-i c = search needs
+
+loop-less : tie.Need-loop-less Inv-loop μ-loop
+loop-less c = search needs
+
+loop-again : tie.Need-loop-again Inv-loop μ-loop
+loop-again c = search needs
+
+line-requires : tie.Need-line-requires Inv-loop μ-loop
+line-requires c κs = search needs
+
+returns : tie.Need-returns Inv-loop μ-loop
+returns c = search needs
+
+pub words-spec : {M : Type 1} → statement M
+words-spec =
+    tie.close
+    (tie.spec
+    Inv-loop
+    μ-loop
+    say-requires
+    loop-holds
+    mul-spaced
+    shared-slice-read-spaced
+    spaced-requires
+    add-i
+    loop-less
+    loop-again
+    line-requires
+    returns)
