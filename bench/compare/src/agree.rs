@@ -1,0 +1,26 @@
+//! The archive and the reference answer alike and leave the same words, on random stores whole
+//! and damaged.
+
+#[path = "../../reference/tests/property/random.rs"]
+mod random;
+
+use random::Random;
+use trisculap_reference::calls;
+
+use crate::ffi;
+
+#[test]
+fn the_archive_and_the_reference_agree() {
+    let mut r = Random::seeded(3);
+    for round in 0..200_000 {
+        let most = if round % 10 == 0 { 200 } else { 14 };
+        let whole = random::store(&mut r, most);
+        let store = random::perhaps_damaged(&mut r, whole);
+        for call in random::calls(&mut r, &store) {
+            let (mut ours, mut theirs) = (store.clone(), store.clone());
+            let answer = calls::perform(&mut ours, &call);
+            assert_eq!(ffi::perform(&mut theirs, &call), answer, "{call:?} on {store:x?}");
+            assert_eq!(theirs, ours, "{call:?} on {store:x?}");
+        }
+    }
+}

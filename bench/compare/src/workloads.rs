@@ -1,0 +1,126 @@
+//! What is measured: workloads on nearly full and on small stores, and the shapes that are
+//! measured at every size.
+
+use trisculap_reference::calls::{Call, Store};
+use trisculap_reference::LIMIT;
+
+use crate::measure::Workload;
+use crate::shapes::*;
+
+pub type Shape = fn(usize) -> Vec<u64>;
+
+const PLAIN: Call = Call::Unify(ROOT, OTHER_ROOT);
+const CHECKED: Call = Call::UnifyChecked(ROOT, OTHER_ROOT);
+const COPY: Call = Call::Copy(ROOT);
+const CYCLIC: Call = Call::Cyclic(ROOT);
+const CHECK: Call = Call::Check;
+const FOLLOW: Call = Call::Follow(ROOT);
+
+/// Two lists of 1,000 elements take this many cells, one such list about half as many.
+const TWO_LISTS: usize = 4003;
+const ONE_LIST: usize = 2003;
+
+/// A workload on a shape of up to `cells` cells.
+fn workload(name: &str, shape: Shape, cells: usize, lent: usize, calls: &[Call]) -> Workload {
+    let store = Store::holding(&shape(cells), lent);
+    Workload { name: name.to_string(), store, calls: calls.to_vec() }
+}
+
+pub fn all() -> Vec<Workload> {
+    let groups = [unifications(), copies_and_cycles(), store_calls(), small_stores()];
+    groups.into_iter().flatten().collect()
+}
+
+fn unifications() -> Vec<Workload> {
+    let lists = |name, shape: Shape, call| workload(name, shape, TWO_LISTS, LIMIT, &[call]);
+    let full = |name, shape: Shape, call| workload(name, shape, LIMIT, LIMIT, &[call]);
+    let undone = [Call::Mark, CHECKED, Call::Rollback(1), Call::Cut(0)];
+    let undone_name = "mark, checked as the first, rollback, cut";
+    vec![
+        lists("checked: 1,000 variables, 1,000 constants", variables_and_constants, CHECKED),
+        lists("checked: the same, with a clash at the end", clash_at_the_end, CHECKED),
+        lists("checked: 1,000 constants, the same again", ground_and_ground, CHECKED),
+        lists("checked: 400 times f(X,b), 400 times f(a,Y)", lists_of_structures, CHECKED),
+        lists("plain: 1,000 variables, 1,000 constants", variables_and_constants, PLAIN),
+        full("plain: rings of 1,022 and 1,023 elements", coprime_rings, PLAIN),
+        full("checked: doubling terms, 682 levels", two_doubling_terms, CHECKED),
+        full("checked: doubling by binding, 584 levels", doubling_by_binding, CHECKED),
+        full("plain: ring of 4,094 overlapping pairs", overlapping_pairs, PLAIN),
+        full("checked: two chains of 2,046 variables", two_chains, CHECKED),
+        full("checked: 682 pairs over a chain of 1,364", pairs_over_one_chain, CHECKED),
+        workload(undone_name, variables_and_constants, TWO_LISTS, LIMIT, &undone),
+    ]
+}
+
+fn copies_and_cycles() -> Vec<Workload> {
+    let half = |name, shape: Shape| workload(name, shape, ONE_LIST, LIMIT, &[COPY]);
+    let full = |name, shape: Shape| workload(name, shape, LIMIT, LIMIT, &[CYCLIC]);
+    vec![
+        half("copy: list of 1,000 elements", list),
+        half("copy: deep shared term, 666 levels", deep_and_shared),
+        half("copy: wide shared term, 255 arguments", wide_and_shared),
+        full("cyclic: list of 2,046 elements", list),
+        full("cyclic: deep shared term, 1,364 levels", deep_and_shared),
+        full("cyclic: wide shared term, 255 arguments", wide_and_shared),
+    ]
+}
+
+fn store_calls() -> Vec<Workload> {
+    let full = |name, shape: Shape, call| workload(name, shape, LIMIT, LIMIT, &[call]);
+    let append = |name, len: usize| {
+        let store = list(3 * LIMIT / 4);
+        let words = words_to_append(store.len(), len);
+        workload(name, list, 3 * LIMIT / 4, LIMIT, &[Call::Append(words)])
+    };
+    vec![
+        full("check: no chains", list, CHECK),
+        full("check: one falling chain", falling_chain, CHECK),
+        full("check: one rising chain", rising_chain, CHECK),
+        full("follow: no chains", list, FOLLOW),
+        append("append: 1 word", 1),
+        append("append: 1,000 words", 1000),
+    ]
+}
+
+/// Here the cost of a call itself shows, and that of lending more than is used.
+fn small_stores() -> Vec<Workload> {
+    let small = |name, call| workload(name, two_structures, 9, 16, &[call]);
+    vec![
+        small("checked: f(X,a), f(7,Y)", CHECKED),
+        workload("checked: the same in 4,096 lent cells", two_structures, 9, LIMIT, &[CHECKED]),
+        small("plain: f(X,a), f(7,Y)", PLAIN),
+        small("copy: f(X,a)", COPY),
+        small("cyclic: f(X,a)", CYCLIC),
+        small("check: f(X,a), f(7,Y)", CHECK),
+        small("follow: f(X,a)", FOLLOW),
+        small("number", Call::Number(-1)),
+    ]
+}
+
+/// A shape at every size, as powers of two up to the limit. A copy gets half of the lent cells
+/// for the term.
+pub fn growing() -> Vec<Vec<Workload>> {
+    let sizes = |name, shape: Shape, call: Call| -> Vec<Workload> {
+        let share = if call == COPY { 2 } else { 1 };
+        let calls = [call];
+        let lent = (6..=12).map(|power| 1 << power);
+        lent.map(|lent| workload(name, shape, lent / share, lent, &calls)).collect()
+    };
+    vec![
+        sizes("checked: lists, variables and constants", variables_and_constants, CHECKED),
+        sizes("checked: lists of structures", lists_of_structures, CHECKED),
+        sizes("plain: rings of coprime periods", coprime_rings, PLAIN),
+        sizes("checked: doubling terms", two_doubling_terms, CHECKED),
+        sizes("checked: doubling by binding", doubling_by_binding, CHECKED),
+        sizes("plain: ring of overlapping pairs", overlapping_pairs, PLAIN),
+        sizes("checked: two chains of variables", two_chains, CHECKED),
+        sizes("checked: pairs over one chain", pairs_over_one_chain, CHECKED),
+        sizes("copy: list", list, COPY),
+        sizes("copy: deep shared term", deep_and_shared, COPY),
+        sizes("cyclic: list", list, CYCLIC),
+        sizes("cyclic: deep shared term", deep_and_shared, CYCLIC),
+        sizes("cyclic: wide shared term", wide_and_shared, CYCLIC),
+        sizes("check: no chains", list, CHECK),
+        sizes("check: one rising chain", rising_chain, CHECK),
+    ]
+}
