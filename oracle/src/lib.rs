@@ -1,0 +1,15 @@
+//! The oracle: the Rust originals run on stores in document 01's layout, a model of document 01,
+//! and what is needed to compare engines with both.
+
+pub mod canon;
+pub mod case;
+pub mod compare;
+#[cfg(feature = "archive")]
+pub mod engine_ffi;
+pub mod expect;
+pub mod heaps;
+pub mod model;
+pub mod notation;
+pub mod rust;
+pub mod store;
+pub mod word;
