@@ -5,6 +5,23 @@ use cell::Refusal;
 use libc::STDOUT_FILENO;
 use trail::Answer;
 
+// The words that the trials are made of: a tag to add a cell number to, and atoms with their arity.
+pub const VAR: u64 = 0x0400_0000_0000_0000;
+
+pub const STR: u64 = 0x0800_0000_0000_0000;
+
+pub const LIS: u64 = 0x0C00_0000_0000_0000;
+
+pub const FIXNUM: u64 = 0x1400_0000_0000_0000;
+
+pub const A: u64 = 0x1000_0000_0000_0061;
+
+pub const NIL: u64 = 0x1000_0000_0011_0000;
+
+pub const G_1: u64 = 0x1000_0001_0000_0067;
+
+pub const F_2: u64 = 0x1000_0002_0000_0066;
+
 pub fn say(text: &[u8]) {
     io::write_all(STDOUT_FILENO, text);
 }

@@ -1,9 +1,9 @@
 // The rules of the trail and of the marks, on one store with a cell of each kind.
-use crate::words::A;
-use crate::words::FIXNUM;
-use crate::words::G_1;
-use crate::words::STR;
-use crate::words::VAR;
+use trial::A;
+use trial::FIXNUM;
+use trial::G_1;
+use trial::STR;
+use trial::VAR;
 use trial::line;
 use trial::say;
 

@@ -1,11 +1,11 @@
 // Cells alone: the bench lines, each rule of a well-formed store, following, numbers.
-use crate::words::A;
-use crate::words::F_2;
-use crate::words::FIXNUM;
-use crate::words::G_1;
-use crate::words::LIS;
-use crate::words::STR;
-use crate::words::VAR;
+use trial::A;
+use trial::F_2;
+use trial::FIXNUM;
+use trial::G_1;
+use trial::LIS;
+use trial::STR;
+use trial::VAR;
 use trial::say;
 
 // The store check, with no trail and no marks.

@@ -1,10 +1,10 @@
 // Heap B with each bit of each cell flipped.
 ghost use Prim.Native.Nat.{_<_};
 ghost use lib.ListN.{length};
-use crate::words::G_1;
-use crate::words::STR;
-use crate::words::VAR;
 use trail::Answer;
+use trial::G_1;
+use trial::STR;
+use trial::VAR;
 use trial::line;
 use trial::number;
 use trial::say;

@@ -5,7 +5,6 @@ mod cells;
 mod flips;
 mod room;
 mod run;
-mod words;
 
 fn main() {
     cells::bench_lines();

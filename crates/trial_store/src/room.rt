@@ -1,7 +1,7 @@
 // Appends up to the limit and past it, in exactly as many lent cells as the limit.
-use crate::words::FIXNUM;
 use append::Placed;
 use store::LIMIT;
+use trial::FIXNUM;
 use trial::line;
 use trial::number;
 use trial::say;

@@ -1,12 +1,12 @@
 // A history of calls on one store, with all lent words after each; and stores that a rollback would
 // break.
-use crate::words::A;
-use crate::words::G_1;
-use crate::words::LIS;
-use crate::words::STR;
-use crate::words::VAR;
 use append::Placed;
 use marks::Marked;
+use trial::A;
+use trial::G_1;
+use trial::LIS;
+use trial::STR;
+use trial::VAR;
 use trial::line;
 use trial::number;
 use trial::say;

@@ -1,0 +1,15 @@
+-- Definitions: what cyclic means, what the calls answer, and what a walk leaves in its tables.
+pub mod Graph
+pub mod Some
+pub mod Sum
+pub mod Kids
+pub mod Links
+pub mod Verdict
+pub mod Room
+pub mod Tables
+-- Laws of them.
+pub mod Ways
+pub mod Cyclic
+pub mod Reached
+pub mod Answers
+pub mod Examples
