@@ -10,14 +10,16 @@ use trial::VAR;
 use trial::line;
 use trial::number;
 use trial::say;
-use trial::state;
 
-// The lengths of the lent buffers.
-const CELLS: usize = 10;
-
-const ENTRIES: usize = 3;
-
-const MARKS: usize = 5;
+// All lent words and counts.
+pub struct Book {
+    pub cells: [u64; 10],
+    pub top: usize,
+    pub trail: [u64; 3],
+    pub trailed: usize,
+    pub marks: [u64; 5],
+    pub marked: usize,
+}
 
 fn placed(p: Placed) {
     match p {
@@ -46,284 +48,154 @@ fn answered(a: trail::Answer) {
     line();
 }
 
-fn append(
-    name: &[u8],
-    cells: &mut [u64; CELLS],
-    top: &mut usize,
-    trail: &[u64; ENTRIES],
-    trailed: usize,
-    marks: &[u64; MARKS],
-    marked: usize,
-    words: &[u64],
-) {
-    say(name);
-    placed(append::append(cells, top, trail, trailed, marks, marked, words));
-    state(cells, *top, trail, trailed, marks, marked);
+impl Book {
+    fn fresh() -> Book {
+        Book {
+            cells: [0u64; 10],
+            top: 1,
+            trail: [0u64; 3],
+            trailed: 0,
+            marks: [0u64; 5],
+            marked: 0,
+        }
+    }
+
+    fn show(self) -> Book {
+        let cells = self.cells;
+        let trail = self.trail;
+        let marks = self.marks;
+        trial::state(&cells, self.top, &trail, self.trailed, &marks, self.marked);
+        self
+    }
+
+    fn append(self, name: &[u8], words: &[u64]) -> Book {
+        let mut cells = self.cells;
+        let mut top = self.top;
+        let trail = self.trail;
+        let trailed = self.trailed;
+        let marks = self.marks;
+        let marked = self.marked;
+        say(name);
+        placed(append::append(&mut cells, &mut top, &trail, trailed, &marks, marked, words));
+        Book {
+            cells,
+            top,
+            trail,
+            trailed,
+            marks,
+            marked,
+        }.show()
+    }
+
+    fn mark(self, name: &[u8]) -> Book {
+        let cells = self.cells;
+        let top = self.top;
+        let trail = self.trail;
+        let trailed = self.trailed;
+        let mut marks = self.marks;
+        let mut marked = self.marked;
+        say(name);
+        noted(marks::mark(&cells, top, &trail, trailed, &mut marks, &mut marked));
+        Book {
+            cells,
+            top,
+            trail,
+            trailed,
+            marks,
+            marked,
+        }.show()
+    }
+
+    fn cut(self, name: &[u8], k: usize) -> Book {
+        let cells = self.cells;
+        let top = self.top;
+        let trail = self.trail;
+        let trailed = self.trailed;
+        let mut marks = self.marks;
+        let mut marked = self.marked;
+        say(name);
+        answered(marks::cut(&cells, top, &trail, trailed, &mut marks, &mut marked, k));
+        Book {
+            cells,
+            top,
+            trail,
+            trailed,
+            marks,
+            marked,
+        }.show()
+    }
+
+    fn rollback(self, name: &[u8], k: usize) -> Book {
+        let mut cells = self.cells;
+        let mut top = self.top;
+        let mut trail = self.trail;
+        let mut trailed = self.trailed;
+        let mut marks = self.marks;
+        let mut marked = self.marked;
+        say(name);
+        answered(marks::rollback(
+            &mut cells,
+            &mut top,
+            &mut trail,
+            &mut trailed,
+            &mut marks,
+            &mut marked,
+            k,
+        ));
+        Book {
+            cells,
+            top,
+            trail,
+            trailed,
+            marks,
+            marked,
+        }.show()
+    }
+
+    // Cell 1 gets the word of `a` by hand, and is trailed.
+    fn bind_first(mut self) -> Book {
+        self.cells[1] = A;
+        self.trail[0] = 1;
+        self.trailed = 1;
+        self
+    }
 }
 
-fn mark(
-    name: &[u8],
-    cells: &[u64; CELLS],
-    top: usize,
-    trail: &[u64; ENTRIES],
-    trailed: usize,
-    marks: &mut [u64; MARKS],
-    marked: &mut usize,
-) {
-    say(name);
-    noted(marks::mark(cells, top, trail, trailed, marks, marked));
-    state(cells, top, trail, trailed, marks, *marked);
-}
-
-fn cut(
-    name: &[u8],
-    cells: &[u64; CELLS],
-    top: usize,
-    trail: &[u64; ENTRIES],
-    trailed: usize,
-    marks: &mut [u64; MARKS],
-    marked: &mut usize,
-    k: usize,
-) {
-    say(name);
-    answered(marks::cut(cells, top, trail, trailed, marks, marked, k));
-    state(cells, top, trail, trailed, marks, *marked);
-}
-
-fn rollback(
-    name: &[u8],
-    cells: &mut [u64; CELLS],
-    top: &mut usize,
-    trail: &mut [u64; ENTRIES],
-    trailed: &mut usize,
-    marks: &mut [u64; MARKS],
-    marked: &mut usize,
-    k: usize,
-) {
-    say(name);
-    answered(marks::rollback(cells, top, trail, trailed, marks, marked, k));
-    state(cells, *top, trail, *trailed, marks, *marked);
-}
-
-// Two marks, with a cell bound by hand between them.
-fn grow(
-    cells: &mut [u64; CELLS],
-    top: &mut usize,
-    trail: &mut [u64; ENTRIES],
-    trailed: &mut usize,
-    marks: &mut [u64; MARKS],
-    marked: &mut usize,
-) {
-    append(
+// Two marks, with a cell bound between them; refusals; and back to each mark.
+pub fn history() {
+    let b = Book::fresh().append(
         b"append Var 1, Str 3, g/1, Var 4: ",
-        cells,
-        top,
-        trail,
-        0,
-        marks,
-        0,
         &[VAR + 1, STR + 3, G_1, VAR + 4],
     );
-    mark(b"mark: ", cells, *top, trail, 0, marks, marked);
-    append(b"append a: ", cells, top, trail, 0, marks, *marked, &[A]);
-    cells[1] = A;
-    trail[0] = 1;
-    *trailed = 1;
-    mark(
-        b"mark, with cell 1 bound: ",
-        cells,
-        *top,
-        trail,
-        1,
-        marks,
-        marked,
-    );
+    let b = b.mark(b"mark: ").append(b"append a: ", &[A]);
+    let b = b.bind_first().mark(b"mark, with cell 1 bound: ");
+    let b = b.mark(b"mark with no room: ");
+    let b = b.append(b"append Lis 7, a, a: ", &[LIS + 7, A, A]);
+    let b = b.append(b"append Str 2: ", &[STR + 2]);
+    let b = b.append(b"append a, a: ", &[A, A]);
+    let b = b.append(b"append none: ", &[]);
+    let b = b.cut(b"cut to 3: ", 3);
+    let b = b.rollback(b"rollback to 0: ", 0);
+    let b = b.rollback(b"rollback to 3: ", 3);
+    let b = b.rollback(b"rollback to 2: ", 2);
+    let b = b.cut(b"cut to 1: ", 1);
+    let b = b.rollback(b"rollback to 1: ", 1);
+    b.cut(b"cut to 0: ", 0);
 }
 
-fn refuse(
-    cells: &mut [u64; CELLS],
-    top: &mut usize,
-    trail: &[u64; ENTRIES],
-    trailed: usize,
-    marks: &mut [u64; MARKS],
-    marked: &mut usize,
-) {
-    mark(
-        b"mark with no room: ",
-        cells,
-        *top,
-        trail,
-        trailed,
-        marks,
-        marked,
-    );
-    append(
-        b"append Lis 7, a, a: ",
-        cells,
-        top,
-        trail,
-        trailed,
-        marks,
-        *marked,
-        &[LIS + 7, A, A],
-    );
-    append(
-        b"append Str 2: ",
-        cells,
-        top,
-        trail,
-        trailed,
-        marks,
-        *marked,
-        &[STR + 2],
-    );
-    append(
-        b"append a, a: ",
-        cells,
-        top,
-        trail,
-        trailed,
-        marks,
-        *marked,
-        &[A, A],
-    );
-    append(
-        b"append none: ",
-        cells,
-        top,
-        trail,
-        trailed,
-        marks,
-        *marked,
-        &[],
-    );
-    cut(b"cut to 3: ", cells, *top, trail, trailed, marks, marked, 3);
-}
-
-fn go_back(
-    cells: &mut [u64; CELLS],
-    top: &mut usize,
-    trail: &mut [u64; ENTRIES],
-    trailed: &mut usize,
-    marks: &mut [u64; MARKS],
-    marked: &mut usize,
-) {
-    rollback(
-        b"rollback to 0: ",
-        cells,
-        top,
-        trail,
-        trailed,
-        marks,
-        marked,
-        0,
-    );
-    rollback(
-        b"rollback to 3: ",
-        cells,
-        top,
-        trail,
-        trailed,
-        marks,
-        marked,
-        3,
-    );
-    rollback(
-        b"rollback to 2: ",
-        cells,
-        top,
-        trail,
-        trailed,
-        marks,
-        marked,
-        2,
-    );
-    cut(
-        b"cut to 1: ",
-        cells,
-        *top,
-        trail,
-        *trailed,
-        marks,
-        marked,
-        1,
-    );
-    rollback(
-        b"rollback to 1: ",
-        cells,
-        top,
-        trail,
-        trailed,
-        marks,
-        marked,
-        1,
-    );
-    cut(
-        b"cut to 0: ",
-        cells,
-        *top,
-        trail,
-        *trailed,
-        marks,
-        marked,
-        0,
-    );
-}
-
-pub fn history() {
-    let mut cells = [0u64; CELLS];
-    let mut top: usize = 1;
-    let mut trail = [0u64; ENTRIES];
-    let mut trailed: usize = 0;
-    let mut marks = [0u64; MARKS];
-    let mut marked: usize = 0;
-    grow(
-        &mut cells,
-        &mut top,
-        &mut trail,
-        &mut trailed,
-        &mut marks,
-        &mut marked,
-    );
-    refuse(
-        &mut cells,
-        &mut top,
-        &trail,
-        trailed,
-        &mut marks,
-        &mut marked,
-    );
-    go_back(
-        &mut cells,
-        &mut top,
-        &mut trail,
-        &mut trailed,
-        &mut marks,
-        &mut marked,
-    );
-}
-
-// A rollback of this store to a mark of these counts.
+// 0, Str 2, g/1, Var 4, a; one trail entry, used or not; one mark of these counts.
 fn broken(name: &[u8], entry: u64, trailed: usize, t: u64, c: u64) {
-    let mut cells = [0, STR + 2, G_1, VAR + 4, A, 0, 0, 0, 0, 0];
-    let mut top: usize = 5;
-    let mut trail = [entry, 0, 0];
-    let mut count = trailed;
-    let mut marks = [t, c, 0, 0, 0];
-    let mut marked: usize = 1;
-    rollback(
-        name,
-        &mut cells,
-        &mut top,
-        &mut trail,
-        &mut count,
-        &mut marks,
-        &mut marked,
-        1,
-    );
+    let b = Book {
+        cells: [0, STR + 2, G_1, VAR + 4, A, 0, 0, 0, 0, 0],
+        top: 5,
+        trail: [entry, 0, 0],
+        trailed,
+        marks: [t, c, 0, 0, 0],
+        marked: 1,
+    };
+    b.rollback(name, 1);
 }
 
-// 0, Str 2, g/1, Var 4, a.
 pub fn left_broken() {
     broken(b"rollback to a top of 0: ", 0, 0, 0, 0);
     broken(b"rollback into a run: ", 0, 0, 3, 0);
