@@ -23,7 +23,7 @@ use Rattle.store.specs.WellFormed.{parts, along, the-rest, no-low}
 use Rattle.trail.specs.Rules.{unboundAt, namesBound, entryNew, entryKeeps, trailUsed, trailGood, markWidth, markTop, markTrail, topBefore, trailBefore, marksGood}
 use Rattle.trail.specs.State.{State, holds}
 use Rattle.trail.specs.Seen.{Seen, Named}
-use Rattle.trail.specs.Facts.{TrailGood, MarkGood, MarksGood, marks-whole, Holds, bound-used}
+use Rattle.trail.specs.Facts.{TrailGood, MarkGood, MarksGood, marks-whole, mark-agrees, Holds, bound-used}
 use Rattle.store.specs.Zeros.{zeroed, length-zeroed, zeroed-below, zeroed-from}
 use Rattle.marks.specs.Unbind.{unbind, length-unbind, unbound, unbind-or, Names}
 use Rattle.marks.specs.Calls.{rolled}
@@ -216,29 +216,17 @@ module _ (top trailed : ℕ) (ms : List ℕ) (n : ℕ) (g : MarksGood top traile
   agree : (i : ℕ) → i < markWidth * k → getD (zeroed (markWidth * k) ms) i 0 ≡ getD ms i 0
   agree = zeroed-below (markWidth * k) ms marks-fit
 
-  top-before : (m : ℕ) → m < k → topBefore (zeroed (markWidth * k) ms) m ≡ topBefore ms m
-  unfolding topBefore
-  top-before zero h = refl
-  top-before (suc m) h = agree (markWidth * m) (omega arith)
-
-  trail-before : (m : ℕ) → m < k → trailBefore (zeroed (markWidth * k) ms) m ≡ trailBefore ms m
-  unfolding trailBefore
-  trail-before zero h = refl
-  trail-before (suc m) h = agree (markWidth * m + 1) (omega arith)
-
   mark-left : (m : ℕ) → m < k → MarkGood (markTop ms (k - 1)) (markTrail ms (k - 1)) (zeroed (markWidth * k) ms) m
   unfolding topBefore trailBefore
   mark-left m h =
       let x = g .each m (omega arith) in
-      let tr = x .top-rises in
-      let cr = x .trail-rises in
-      let tw = up-to (markTop ms) (λ j l. g .each (suc j) l .top-rises) m h in
-      let cw = up-to (markTrail ms) (λ j l. g .each (suc j) l .trail-rises) m h in
-      let e = agree (markWidth * m) (omega arith) in
-      let f = agree (markWidth * m + 1) (omega arith) in
-      let p = top-before m h in
-      let q = trail-before m h in
-      record { top-rises = omega arith; trail-rises = omega arith; top-within = omega arith; trail-within = omega arith }
+      mark-agrees ms (zeroed (markWidth * k) ms) k agree _ _ m h
+      (record {
+        top-rises = x .top-rises;
+        trail-rises = x .trail-rises;
+        top-within = up-to (markTop ms) (λ j l. g .each (suc j) l .top-rises) m h;
+        trail-within = up-to (markTrail ms) (λ j l. g .each (suc j) l .trail-rises) m h;
+      })
 
   marks-left : marksGood (markTop ms (k - 1)) (markTrail ms (k - 1)) (zeroed (markWidth * k) ms) k ≡ true
   marks-left =

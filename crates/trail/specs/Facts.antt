@@ -1,8 +1,8 @@
 -- The rules of the trail, the marks and the whole store as facts: what a reader takes for their definition. Each is proved to be the same as its test in specs/Rules.antt.
-use mathlib.Core.Path.{_≡_, sym, ap}
-use mathlib.Core.Bool.{true, not, _&&_, and-eq-true-iff}
+use mathlib.Core.Path.{_≡_, refl, sym, ap}
+use mathlib.Core.Bool.{Bool, true, false, not, _&&_, cond, and-eq-true-iff}
 use mathlib.Core.List.{List}
-use Prim.Native.Nat.{ℕ, _*_, _<_, _≤_}
+use Prim.Native.Nat.{ℕ, zero, suc, _+_, _*_, _<_, _≤_}
 use native.Mathlib.Omega.{arith}
 use lib.ListN.{length, getD}
 use lib.Dec.{leb, ltb, eqb}
@@ -12,7 +12,8 @@ use Rattle.store.specs.Store.{zeroFrom, wellFormed}
 use Rattle.store.specs.Zeros.{zeros, zeros-back}
 use Rattle.trail.specs.declared.Answer.the-variants.{Done}
 use Rattle.trail.specs.Rules.{namesBound, entryNew, entryKeeps, trailUsed, trailGood, markWidth, markTop, markTrail, topBefore, trailBefore, rises, markGood, marksGood}
-use Rattle.trail.specs.State.{State, cellsHold, trailHolds, holds, checkOf, check-done}
+use Rattle.cell.specs.declared.Refusal.{Refusal}
+use Rattle.trail.specs.State.{State, Outcome, refused, cellsHold, trailHolds, holds, checkOf, need, _then_, unless, check-done}
 
 -- ---- the trail
 pub record TrailGood (cells : List ℕ) (top : ℕ) (trail : List ℕ) (trailed : ℕ) : Type 0 where
@@ -108,6 +109,42 @@ module _ (top trailed : ℕ) (marks : List ℕ) where
   unfolding marksGood
   marks-whole n g = rw (le-leb (markWidth * n) (length marks) (g .fits), all-true (markGood top trailed marks) n 0 (λ m _ l. mark-whole m (g .each m (omega arith)))) (zeros-back marks (markWidth * n) (g .rest))
 
+-- marks that agree below n marks
+module _ (ms ns : List ℕ) (n : ℕ) (agree : (i : ℕ) → i < markWidth * n → getD ns i 0 ≡ getD ms i 0) where
+  pub top-agrees : (m : ℕ) → m ≤ n → topBefore ns m ≡ topBefore ms m
+  unfolding topBefore
+  top-agrees zero h = refl
+  top-agrees (suc m) h = agree (markWidth * m) (omega arith)
+
+  pub trail-agrees : (m : ℕ) → m ≤ n → trailBefore ns m ≡ trailBefore ms m
+  unfolding trailBefore
+  trail-agrees zero h = refl
+  trail-agrees (suc m) h = agree (markWidth * m + 1) (omega arith)
+
+  pub mark-agrees : (top trailed m : ℕ) → m < n → MarkGood top trailed ms m → MarkGood top trailed ns m
+  mark-agrees top trailed m h g =
+      let a = top-agrees m (omega arith) in
+      let b = trail-agrees m (omega arith) in
+      let c = agree (markWidth * m) (omega arith) in
+      let d = agree (markWidth * m + 1) (omega arith) in
+      let e = g .top-rises in
+      let f = g .trail-rises in
+      let u = g .top-within in
+      let v = g .trail-within in
+      record { top-rises = omega arith; trail-rises = omega arith; top-within = omega arith; trail-within = omega arith }
+
+-- no mark is above the present counts
+module _ (top trailed : ℕ) (ms : List ℕ) (n : ℕ) (g : MarksGood top trailed ms n) where
+  pub top-below : (m : ℕ) → m ≤ n → topBefore ms m ≤ top
+  unfolding topBefore
+  top-below zero h = omega arith
+  top-below (suc m) h = g .each m (omega arith) .top-within
+
+  pub trail-below : (m : ℕ) → m ≤ n → trailBefore ms m ≤ trailed
+  unfolding trailBefore
+  trail-below zero h = omega arith
+  trail-below (suc m) h = g .each m (omega arith) .trail-within
+
 -- ---- the whole store
 pub record Holds (s : State) : Type 0 where
   pub cells-good : wellFormed (s .cells) (s .top) ≡ true
@@ -129,3 +166,14 @@ module _ (s : State) where
 
   pub check-holds : Holds s → checkOf s ≡ Done
   check-holds h = sym (check-done s (h .cells-good) (trail-holds h))
+
+  -- of a call with one refusal more, or two: the tests that are left decide
+  module _ (h : Holds s) (r : Outcome × State) where
+    pub unless-one : (b : Bool) (e : Refusal) → unless (checkOf s then need b e) s r ≡ cond b r (refused e, s)
+    unless-one true e = rw (check-holds h)
+    unless-one false e = rw (check-holds h)
+
+    pub unless-two : (b : Bool) (e : Refusal) (c : Bool) (f : Refusal) → unless (checkOf s then need b e then need c f) s r ≡ cond b (cond c r (refused f, s)) (refused e, s)
+    unless-two true e true f = rw (check-holds h)
+    unless-two true e false f = rw (check-holds h)
+    unless-two false e c f = rw (check-holds h)

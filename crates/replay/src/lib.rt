@@ -1,0 +1,1 @@
+// No code: the history of a store and what replaying it gives.
