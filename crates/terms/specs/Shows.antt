@@ -40,7 +40,7 @@ arity-some s n = go (kindAt s n)
     go Bad = (1, refl)
 
 -- a cell that is no header is the first of a pair
-flat : (k : Kind) → not (isHeader k) ≡ true → (funKind k ≡ dot) × (behind k ≡ 0)
+pub flat : (k : Kind) → not (isHeader k) ≡ true → (funKind k ≡ dot) × (behind k ≡ 0)
 unfolding funKind behind isHeader
 flat (Var v) h = (refl, refl)
 flat (Str v) h = (refl, refl)
@@ -51,12 +51,12 @@ flat (Fixnum z) h = (refl, refl)
 flat Bad h = (refl, refl)
 
 module _ (s : List ℕ) (top : ℕ) (wf : WellFormed s top) (i : ℕ) (l : 1 ≤ i) (h : i < top) where
-  look-here : step s i ≡ i → lookAt s top i ≡ viewKind s (kindAt s i)
+  pub look-here : step s i ≡ i → lookAt s top i ≡ viewKind s (kindAt s i)
   unfolding lookAt
   look-here e = ap (λ (x : ℕ). viewKind s (kindAt s x)) (steps-fixed s top i e)
 
   -- following from the next cell along a Var ends where following ends
-  look-over : lookAt s top i ≡ lookAt s top (step s i)
+  pub look-over : lookAt s top i ≡ lookAt s top (step s i)
   unfolding lookAt steps
   look-over =
       let z : 1 + top ≡ top + 1 = omega arith in
