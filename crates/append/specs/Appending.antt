@@ -20,7 +20,7 @@ module _ (s : State) (ws : List ℕ) (h : Holds s) where
   pub cells-are : WellFormed (s .cells) (s .top)
   cells-are = parts (s .cells) (s .top) (h .cells-good)
 
-  no-place : roomFor s (length ws) ≡ false → (refused Room, s) ≡ appending s ws
+  no-place : roomFor (s .cells) (s .top) (length ws) ≡ false → (refused Room, s) ≡ appending s ws
   unfolding appending
   no-place e = rw (check-holds s h, e)
 
@@ -32,7 +32,7 @@ module _ (s : State) (ws : List ℕ) (h : Holds s) where
     over-length l = no-place (rw (le-leb (s .top + length ws) limit high, lt-leb (s .top + length ws) (length (s .cells)) l))
 
     module _ (room : s .top + length ws ≤ length (s .cells)) where
-      place : roomFor s (length ws) ≡ true
+      place : roomFor (s .cells) (s .top) (length ws) ≡ true
       place = rw (le-leb (s .top + length ws) limit high, le-leb (s .top + length ws) (length (s .cells)) room)
 
       -- ---- with the words laid, in cells cs

@@ -15,9 +15,9 @@ abbrev pub saidAt : Placed → Outcome
 saidAt (At n) = done n
 saidAt (Refused r) = refused r
 
--- there is room for n cells more
-abbrev pub roomFor : State → ℕ → Bool
-roomFor s n = leb (s .top + n) limit && leb (s .top + n) (length (s .cells))
+-- there is room for n cells more: they pass neither the limit nor the lent cells
+abbrev pub roomFor : List ℕ → ℕ → ℕ → Bool
+roomFor cells top n = leb (top + n) limit && leb (top + n) (length cells)
 
 -- the store with the words
 abbrev pub grown : State → List ℕ → State
@@ -28,4 +28,4 @@ abbrev pub fits : State → List ℕ → Bool
 fits s ws = wellFormed (grown s ws .cells) (grown s ws .top)
 
 unfoldable pub appending : State → List ℕ → Outcome × State
-appending s ws = unless (checkOf s then need (roomFor s (length ws)) Room then need (fits s ws) Words) s (done (s .top), grown s ws)
+appending s ws = unless (checkOf s then need (roomFor (s .cells) (s .top) (length ws)) Room then need (fits s ws) Words) s (done (s .top), grown s ws)

@@ -45,10 +45,10 @@ front-length ws d l = simp (length-append, length-drop) (omega arith)
 
 -- ---- what a callee left in the part from a place to the end, said of the whole
 module _ (s : List ℕ) (top : ℕ) (within : top ≤ length s) where
-  mid-is : midOf top (length s - top) s ≡ drop top s
+  pub mid-is : midOf top (length s - top) s ≡ drop top s
   mid-is = take-all (length s - top) (drop top s) (simp length-drop (omega arith))
 
-  post-is : postOf top (length s - top) s ≡ []
+  pub post-is : postOf top (length s - top) s ≡ []
   post-is = drop-of-length-le (drop top s) {i = length s - top} (simp length-drop (omega arith))
 
   pub put-laid : (ws y : List ℕ) → y ≡ front ws (midOf top (length s - top) s) → putMid top (length s - top) s y ≡ laid s top ws

@@ -78,12 +78,12 @@ by-bool P false x y f g = g refl
 
 pub append-obeys : (s : State) → holds s ≡ true → (ws : List ℕ) → Obeys s (appending s ws)
 unfolding appending Obeys
-append-obeys s hs ws = subst (Obeys s) (sym (unless-two s h _ (roomFor s (length ws)) Room (fits s ws) Words)) (by-bool (Obeys s) (roomFor s (length ws)) _ _ (λ r. by-bool (Obeys s) (fits s ws) _ _ (yes-case r) (λ _. refl)) (λ _. refl))
+append-obeys s hs ws = subst (Obeys s) (sym (unless-two s h _ (roomFor (s .cells) (s .top) (length ws)) Room (fits s ws) Words)) (by-bool (Obeys s) (roomFor (s .cells) (s .top) (length ws)) _ _ (λ r. by-bool (Obeys s) (fits s ws) _ _ (yes-case r) (λ _. refl)) (λ _. refl))
   where
     h : Holds s
     h = holds-parts s hs
 
-    yes-case : roomFor s (length ws) ≡ true → fits s ws ≡ true → Adds s (A.grown s ws)
+    yes-case : roomFor (s .cells) (s .top) (length ws) ≡ true → fits s ws ≡ true → Adds s (A.grown s ws)
     yes-case r f =
         let q = leb-true _ _ (and-eq-true-iff (leb (s .top + length ws) limit) (leb (s .top + length ws) (length (s .cells))) .0 r .1) in
         grown-adds s h (laid (s .cells) (s .top) ws) (s .top + length ws) f (laid-length (s .cells) (s .top) ws q) (omega arith) (laid-below (s .cells) (s .top) ws q)

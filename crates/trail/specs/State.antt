@@ -65,7 +65,7 @@ said Done = done 0
 said (Refused r) = refused r
 
 -- a call with these refusals that else comes to r; a refusal changes nothing
-abbrev pub unless : Answer → State → Outcome × State → Outcome × State
+abbrev pub unless : {A : Type 0} → Answer → A → Outcome × A → Outcome × A
 unless Done s r = r
 unless (Refused e) s r = (refused e, s)
 

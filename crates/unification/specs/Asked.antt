@@ -18,7 +18,8 @@ use Rattle.trail.specs.State.{State, Outcome, done, failed, refused, checkOf, n
 use Rattle.trail.specs.Facts.{Holds, holds-parts, check-holds}
 use Rattle.cycle.specs.Verdict.{cyclicAt}
 use Rattle.unification.specs.Machine.{Machine, Ending, yes, clashes, occurs, late, unified, start, fuel}
-use Rattle.unification.specs.Calls.{workNeed, unbound, cleared, plainCheck, checkedCheck, Result, leftBy, answered, unlessRefused, plainly, checkedly}
+use Rattle.chains.specs.Work.{workNeed, cleared}
+use Rattle.unification.specs.Calls.{unbound, plainCheck, checkedCheck, Result, leftBy, answered, unlessRefused, plainly, checkedly}
 use Rattle.unification.specs.Live.{Live, live-start}
 
 -- no refusal from 1 to 5 holds

@@ -21,7 +21,8 @@ use Rattle.cycle.specs.Verdict.{paths, cyclicAt}
 use Rattle.cycle.specs.Room.{reaches}
 use Rattle.terms.specs.View.{strView, viewKind, funKind, behind}
 use Rattle.unification.specs.Machine.{sameNumber, sameConstant, sameFun, rule, merge, args, actOf, isCompound, stopped, run, unified}
-use Rattle.unification.specs.Calls.{Result, unbound, cleared, plainCheck, checkedCheck, answered, plainly, checkedly}
+use Rattle.chains.specs.Work.{cleared}
+use Rattle.unification.specs.Calls.{Result, unbound, plainCheck, checkedCheck, answered, plainly, checkedly}
 
 -- cell 0, and a cell of each kind given
 abbrev heap : List Kind → List ℕ

@@ -12,14 +12,8 @@ use Rattle.trail.specs.declared.Answer.the-variants.{Done, Refused}
 use Rattle.trail.specs.State.{State, stateOf, Outcome, done, failed, refused, checkOf, need, _then_}
 use Rattle.cycle.specs.Sum.{sumFrom}
 use Rattle.cycle.specs.Verdict.{cyclicAt}
+use Rattle.chains.specs.Work.{workNeed, cleared}
 use Rattle.unification.specs.Machine.{Machine, Ending, yes, clashes, occurs, late, unified}
-
--- how many work words a used cell takes
-abbrev pub workFactor : ℕ
-workFactor = 12
-
-abbrev pub workNeed : ℕ → ℕ
-workNeed top = workFactor * top
 
 -- 1 for an unbound Var at i
 abbrev pub freeAt : List ℕ → ℕ → ℕ
@@ -28,10 +22,6 @@ freeAt cells i = cond (unboundAt cells i) 1 0
 -- how many of the used cells are unbound Vars
 unfoldable pub unbound : List ℕ → ℕ → ℕ
 unbound cells top = sumFrom 0 top (freeAt cells)
-
--- the first n words 0, and the rest as they were
-unfoldable pub cleared : ℕ → List ℕ → List ℕ
-cleared n work = replicate n 0 ++ drop n work
 
 -- refusals 1 and 2, then 3 of either root, 4, and 5
 unfoldable pub plainCheck : State → List ℕ → ℕ → ℕ → Answer

@@ -21,7 +21,8 @@ use Rattle.terms.specs.Term.{Term}
 use Rattle.terms.specs.Stands.{Stands}
 use Rattle.terms.specs.Finite.{StandsAt, OneTerm}
 use Rattle.unification.specs.Machine.{Machine, Ending, yes, clashes, occurs, late, unified, start, fuel}
-use Rattle.unification.specs.Calls.{workNeed, cleared, plainCheck, checkedCheck, Result, leftBy, answered, plainly, checkedly}
+use Rattle.chains.specs.Work.{workNeed, cleared}
+use Rattle.unification.specs.Calls.{plainCheck, checkedCheck, Result, leftBy, answered, plainly, checkedly}
 use Rattle.unification.specs.Trees.{Label, Agree, SolvesAt, AgreeAt}
 use Rattle.unification.specs.Substitution.{inst, Unifies}
 use Rattle.unification.specs.Live.{Live, Ends, run-keeps}

@@ -1,0 +1,112 @@
+-- The parts of the work buffer: a copy's tables, and behind them what is remembered of chains. And words that become 0.
+use mathlib.Core.Path.{_≡_, refl, sym, ap, _∙_}
+use mathlib.Core.List.{List, _++_, append-nil}
+use Prim.Native.Nat.{ℕ, _+_, _-_, _<_, _≤_}
+use native.Mathlib.Omega.{arith}
+use lib.ListN.{length, getD, set, take, drop, replicate, length-append, length-take, length-drop, length-replicate, List·getD-append}
+use lib.Seq.{getD-take, getD-drop, getD-append-add, ext-getD, length-take-le}
+use borrow.Author.Fill.{fill-more}
+use borrow.Rule.Slice.PartMut.{putMid}
+use Rattle.store.specs.Zeros.{zero-at}
+use Rattle.append.specs.Laid.{post-is}
+use Rattle.chains.specs.Work.{workNeed, cleared}
+use Rattle.chains.specs.Chains.{Hops}
+use Rattle.chains.specs.Hops.{hops-none}
+use Rattle.copy.specs.Rules.{tableWords}
+
+abbrev pub tablesOf : ℕ → List ℕ → List ℕ
+tablesOf top work = take (tableWords top) work
+
+abbrev pub hopsOf : ℕ → List ℕ → List ℕ
+hopsOf top work = drop (tableWords top) work
+
+-- how many words a copy uses
+abbrev pub usedWords : ℕ → ℕ
+usedWords top = tableWords top + top
+
+-- no word behind them has changed
+pub record Kept (top : ℕ) (old new : List ℕ) : Type 0 where
+  pub long : length new ≡ length old
+  pub rest : (j : ℕ) → usedWords top ≤ j → getD new j 0 ≡ getD old j 0
+
+pub kept-none : (top : ℕ) (work : List ℕ) → Kept top work work
+kept-none top work = record { long = refl; rest = λ j _. refl }
+
+pub kept-more : {top : ℕ} {a b c : List ℕ} → Kept top a b → Kept top b c → Kept top a c
+kept-more p q = record { long = q .long ∙ p .long; rest = λ j h. q .rest j h ∙ p .rest j h }
+
+-- where the words from the tables' end on are the same
+pub kept-tables : (top : ℕ) (old new : List ℕ) → length new ≡ length old → hopsOf top new ≡ hopsOf top old → Kept top old new
+kept-tables top old new l e = record { long = l; rest = λ j h. at j (j - tableWords top) (omega arith) }
+  where
+    at : (j k : ℕ) → tableWords top + k ≡ j → getD new j 0 ≡ getD old j 0
+    at j k q = ap (λ (i : ℕ). getD new i 0) (sym q) ∙ sym (getD-drop (tableWords top) new k 0) ∙ ap (λ (x : List ℕ). getD x k 0) e ∙ getD-drop (tableWords top) old k 0 ∙ ap (λ (i : ℕ). getD old i 0) q
+
+-- ---- what following left in the part behind the tables, said of the whole
+module _ (top : ℕ) (work part new : List ℕ) (wide : usedWords top ≤ length work) (e : new ≡ putMid (tableWords top) (length work - tableWords top) work part) (l : length part ≡ length work - tableWords top) where
+  is : new ≡ take (tableWords top) work ++ part
+  is = e ∙ ap (λ (r : List ℕ). take (tableWords top) work ++ r) (ap (λ (r : List ℕ). part ++ r) (post-is work (tableWords top) (omega arith)) ∙ append-nil part)
+
+  front : length (take (tableWords top) work) ≡ tableWords top
+  front = length-take-le (tableWords top) work (omega arith)
+
+  pub part-tables : tablesOf top new ≡ tablesOf top work
+  part-tables = ap (tablesOf top) is ∙ ext-getD 0 _ _ (simp (length-take, length-append) (omega (arith, front))) (λ i h. first i (omega (arith, short)))
+    where
+      short : length (take (tableWords top) (take (tableWords top) work ++ part)) ≤ tableWords top
+      short = simp length-take (omega arith)
+
+      first : (i : ℕ) → i < tableWords top → getD (take (tableWords top) (take (tableWords top) work ++ part)) i 0 ≡ getD (take (tableWords top) work) i 0
+      first i h = let f = front in getD-take (tableWords top) _ i 0 h ∙ List·getD-append (take (tableWords top) work) part 0 i (omega arith)
+
+  pub part-hops : hopsOf top new ≡ part
+  part-hops = ap (hopsOf top) is ∙ ext-getD 0 _ _ (simp (length-drop, length-append) (omega (arith, front))) (λ i h. getD-drop (tableWords top) _ i 0 ∙ ap (λ (n : ℕ). getD (take (tableWords top) work ++ part) (n + i) 0) (sym front) ∙ getD-append-add (take (tableWords top) work) part i 0)
+
+  pub part-long : length new ≡ length work
+  part-long = ap length is ∙ simp length-append (omega (arith, front))
+
+-- ---- words that become 0
+pub clear-step : (i : ℕ) (d x : List ℕ) → x ≡ replicate i 0 ++ drop i d → i < length d → set x i 0 ≡ replicate (i + 1) 0 ++ drop (i + 1) d
+clear-step i d x e h = ap (λ (y : List ℕ). set y i 0) e ∙ fill-more i 0 d h
+
+pub clear-done : (i n : ℕ) (d x : List ℕ) → x ≡ replicate i 0 ++ drop i d → i ≡ n → x ≡ cleared n d
+unfolding cleared
+clear-done i n d x e q = e ∙ ap (λ (k : ℕ). replicate k 0 ++ drop k d) q
+
+module _ (n : ℕ) (work : List ℕ) (l : n ≤ length work) where
+  pub cleared-long : length (cleared n work) ≡ length work
+  unfolding cleared
+  cleared-long = let z = length-replicate {A = ℕ} n 0 in simp (length-append, length-drop) (omega arith)
+
+  pub cleared-zero : (i : ℕ) → i < n → getD (cleared n work) i 0 ≡ 0
+  unfolding cleared
+  cleared-zero i h = let z = length-replicate {A = ℕ} n 0 in List·getD-append (replicate n 0) (drop n work) 0 i (omega arith) ∙ zero-at n i
+
+  cleared-rest : (i : ℕ) → getD (cleared n work) (n + i) 0 ≡ getD work (n + i) 0
+  unfolding cleared
+  cleared-rest i =
+      let z = length-replicate {A = ℕ} n 0 in
+      ap (λ (m : ℕ). getD (cleared n work) (m + i) 0) (sym z) ∙ getD-append-add (replicate n 0) (drop n work) i 0 ∙ getD-drop n work i 0
+
+  -- what differs from it only below n is cleared to the same
+  pub cleared-again : (new : List ℕ) → length new ≡ length work → ((i : ℕ) → n ≤ i → getD new i 0 ≡ getD (cleared n work) i 0) → cleared n new ≡ cleared n work
+  unfolding cleared
+  cleared-again new e f =
+      ap (λ (y : List ℕ). replicate n 0 ++ y)
+      (ext-getD 0 (drop n new) (drop n work) (simp length-drop (ap (λ (m : ℕ). m - n) e)) (λ i h. getD-drop n new i 0 ∙ f (n + i) (omega arith) ∙ cleared-rest i ∙ sym (getD-drop n work i 0)))
+
+-- a cleared buffer: empty tables, and nothing remembered
+module _ (s : List ℕ) (top : ℕ) (work : List ℕ) (l : workNeed top ≤ length work) where
+  pub cleared-tables : tablesOf top (cleared (workNeed top) work) ≡ replicate (tableWords top) 0
+  cleared-tables =
+      let c = cleared-long (workNeed top) work l in
+      let z = length-replicate {A = ℕ} (tableWords top) 0 in
+      let t = length-take-le (tableWords top) (cleared (workNeed top) work) (omega arith) in
+      ext-getD 0 _ _ (omega arith) (λ i h. getD-take (tableWords top) _ i 0 (omega arith) ∙ cleared-zero (workNeed top) work l i (omega arith) ∙ sym (zero-at (tableWords top) i))
+
+  pub cleared-hops : Hops s top (hopsOf top (cleared (workNeed top) work))
+  cleared-hops = hops-none s top _ (λ i h. getD-drop (tableWords top) _ i 0 ∙ cleared-zero (workNeed top) work l (tableWords top + i) (omega arith))
+
+  -- and cleared again after a copy
+  pub cleared-kept : (new : List ℕ) → Kept top (cleared (workNeed top) work) new → cleared (workNeed top) new ≡ cleared (workNeed top) work
+  cleared-kept new k = cleared-again (workNeed top) work l new (k .long ∙ cleared-long (workNeed top) work l) (λ i h. k .rest i (omega arith))
