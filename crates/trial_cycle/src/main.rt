@@ -1,6 +1,7 @@
 // Runs the cycle verdict on cycles through each position, on shared and overlapping terms, and on
 // stores as large as they get.
-ghost use Prim.Native.Nat.{_+_, _*_, _<_, _≤_};
+ghost use Prim.Native.Nat.{_+_, _*_, _<_};
+ghost use Rattle.store.specs.Store.{limit};
 use cycle::Verdict;
 use store::LIMIT;
 use trial::A;
@@ -79,7 +80,7 @@ fn large(name: &[u8], cells: &[u64; LIMIT], top: usize) {
 
 // Level k has a header at 2 + 3k, and both arguments are a Str of the next level.
 fn doubled(cells: &mut [u64; LIMIT], levels: usize)
-    requires { ⌜ levels * 3 + 2 < 4096 ⌝ }
+    requires { ⌜ levels * 3 + 2 < limit ⌝ }
 {
     cells[1] = STR + 2;
     let mut k = 0;
@@ -104,7 +105,7 @@ fn doubling() {
 
 // Each cell names the next; the last is what it is.
 fn chained(cells: &mut [u64; LIMIT], last: usize)
-    requires { ⌜ last < 4096 ⌝ }
+    requires { ⌜ last < limit ⌝ }
 {
     let mut i: usize = 1;
     while i < last {
@@ -126,7 +127,7 @@ fn chains() {
 
 // Each cell before the header is a Str of it.
 fn structures_of(cells: &mut [u64; LIMIT], header: usize)
-    requires { ⌜ header < 4096 ⌝ }
+    requires { ⌜ header < limit ⌝ }
 {
     let mut i: usize = 1;
     while i < header {
@@ -136,7 +137,7 @@ fn structures_of(cells: &mut [u64; LIMIT], header: usize)
 }
 
 fn atoms_behind(cells: &mut [u64; LIMIT], header: usize)
-    requires { ⌜ header + 255 < 4096 ⌝ }
+    requires { ⌜ header + 255 < limit ⌝ }
 {
     let mut k: usize = 1;
     while k <= 255 {
