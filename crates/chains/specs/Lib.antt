@@ -1,6 +1,7 @@
--- Definitions: chains of Vars, what is remembered of them, and how long a work buffer has to be.
+-- Definitions: chains of Vars, what is remembered of them, how long a work buffer has to be, and how it is left.
 pub mod Chains
 pub mod Work
--- Laws: what is remembered stays true, and a variable that is bound keeps a store well formed.
+-- Laws: words that become 0, what is remembered stays true, and a variable that is bound keeps a store well formed.
+pub mod Cleared
 pub mod Hops
 pub mod Bind

@@ -6,7 +6,7 @@ ghost use Prim.Native.Nat.{ℕ, _<_, _≤_};
 ghost use lib.ListN.{length};
 ghost use Rattle.store.specs.Store.{limit, endOf};
 ghost use Rattle.chains.specs.Chains.{Chained, Onward, Hops, Hopped};
-ghost use Rattle.chains.specs.Work.{workNeed};
+ghost use Rattle.chains.specs.Work.{workNeed, cleared};
 
 // Words of work buffer for each used cell.
 pub const WORK_FACTOR: usize = 12;
@@ -17,6 +17,18 @@ pub fn work_need(top: usize) -> usize
     ensures { λ r. ⌜ r ≡ workNeed top ⌝ }
 {
     WORK_FACTOR * top
+}
+
+// The first `n` words become 0.
+pub fn clear(words: &mut [u64], n: usize)
+    requires { ⌜ n ≤ length (now words) ⌝ }
+    ensures { λ r. ⌜ now (words .exit) ≡ cleared n (now (words .entry)) ⌝ }
+{
+    let mut i = 0;
+    while i < n {
+        words[i] = 0;
+        i += 1;
+    }
 }
 
 // What is remembered of a cell, else one step along its Var.

@@ -12,7 +12,8 @@ use Rattle.chains.specs.Work.{workNeed, cleared}
 use Rattle.copy.specs.Rules.{State, tableWords, endWord, act, scan, scanned, copied}
 use Rattle.copy.specs.Inv.{Given, Inv}
 use Rattle.copy.specs.Whole.{begun}
-use Rattle.copy.specs.Buffer.{tablesOf, hopsOf, Kept, kept-more, kept-tables, cleared-long, cleared-tables, cleared-hops, cleared-kept}
+use Rattle.chains.specs.Cleared.{cleared-long}
+use Rattle.copy.specs.Buffer.{tablesOf, hopsOf, Kept, kept-more, kept-tables, cleared-tables, cleared-hops, cleared-kept}
 use Rattle.copy.specs.Asks.{stateOf, Sound, Can, Ready, can-whole, sound, can, again}
 use Rattle.copy.specs.Followed.{Ended, Followed}
 use Rattle.copy.specs.Arms.{act-front, act-behind, scanned-is}

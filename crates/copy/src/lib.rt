@@ -214,28 +214,17 @@ fn copy_term_impl(cells: &mut [u64], work: &mut [u64], top: usize) -> usize
     end
 }
 
-fn clear(words: &mut [u64], n: usize)
-    requires { ⌜ n ≤ length (now words) ⌝ }
-    ensures { λ r. ⌜ now (words .exit) ≡ cleared n (now (words .entry)) ⌝ }
-{
-    let mut i = 0;
-    while i < n {
-        words[i] = 0;
-        i += 1;
-    }
-}
-
 // The copy, past the refusals: the work buffer is cleared before and after.
 fn copy_root(cells: &mut [u64], work: &mut [u64], top: usize, root: usize) -> usize
     requires { ⌜ Given (now cells) top root × (workNeed top ≤ length (now work)) ⌝ }
     ensures { λ r. ⌜ (now (cells .exit) ≡ copied (now (cells .entry)) top root .cells) × (r ≡ copied (now (cells .entry)) top root .end) × (now (work .exit) ≡ cleared (workNeed top) (now (work .entry))) ⌝ }
 {
     let n = chains::work_need(top);
-    clear(work, n);
+    chains::clear(work, n);
     let w = cells[root];
     put_at(cells, top, top, w);
     let e = copy_term_impl(cells, work, top);
-    clear(work, n);
+    chains::clear(work, n);
     e
 }
 

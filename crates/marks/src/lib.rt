@@ -194,7 +194,7 @@ fn roll_check(
 }
 
 // The cells that the trail names from a place to another are unbound again.
-fn unbind(cells: &mut [u64], trail: &[u64], from: usize, to: usize)
+pub fn unbind(cells: &mut [u64], trail: &[u64], from: usize, to: usize)
     requires { ⌜ Names (now trail) from to (length (now cells)) × Names (now trail) from to limit ⌝ }
     ensures { λ r. ⌜ now (cells .exit) ≡ unbind (now (trail .entry)) from (to - from) (now (cells .entry)) ⌝ }
 {

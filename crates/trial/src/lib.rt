@@ -98,6 +98,18 @@ pub fn numbers(name: &[u8], list: &[u64]) {
     line();
 }
 
+// How many words at the start are 0.
+pub fn zeros(words: &[u64]) -> usize {
+    let mut i = 0;
+    while i < words.len() {
+        if words[i] != 0 {
+            return i;
+        }
+        i += 1;
+    }
+    i
+}
+
 // All lent words and all counts.
 pub fn state(
     cells: &[u64],

@@ -13,18 +13,6 @@ use trial::line;
 use trial::number;
 use trial::say;
 
-// How many words at the start are 0.
-fn zeros(words: &[u64]) -> usize {
-    let mut i = 0;
-    while i < words.len() {
-        if words[i] != 0 {
-            return i;
-        }
-        i += 1;
-    }
-    i
-}
-
 fn copy_in(name: &[u8], cells: &mut [u64], top: usize, work: &mut [u64], root: usize) {
     let mut count = top;
     say(name);
@@ -38,7 +26,7 @@ fn copy_in(name: &[u8], cells: &mut [u64], top: usize, work: &mut [u64], root: u
     say(b", top ");
     number(count);
     say(b", work words 0: ");
-    number(zeros(work));
+    number(trial::zeros(work));
     line();
     trial::words(b"  cells", cells);
 }
