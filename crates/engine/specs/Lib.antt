@@ -1,0 +1,2 @@
+-- What a C caller sees of a call.
+pub mod Coded
