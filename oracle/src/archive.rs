@@ -1,142 +1,9 @@
 //! The proved engine as an engine here: the C functions of `trisculap.h`, linked from libengine.a
 //! (feature `archive`). It also checks the lent words that an outcome does not show.
 
+use trisculap::c;
+
 use crate::case::{Answer, Call, Case, Engine, Outcome};
-
-/// The functions of `trisculap.h`.
-pub mod c {
-    #![allow(clippy::too_many_arguments)]
-
-    unsafe extern "C" {
-        pub fn trisculap_check(
-            cells: *const u64,
-            cells_len: usize,
-            top: usize,
-            trail: *const u64,
-            trail_len: usize,
-            trail_count: usize,
-            marks: *const u64,
-            marks_len: usize,
-            mark_count: usize,
-        ) -> u64;
-
-        pub fn trisculap_number(n: i64, word: *mut u64) -> u64;
-
-        pub fn trisculap_follow(
-            cells: *const u64,
-            cells_len: usize,
-            top: usize,
-            at: usize,
-            word: *mut u64,
-        ) -> u64;
-
-        pub fn trisculap_append(
-            cells: *mut u64,
-            cells_len: usize,
-            top: *mut usize,
-            trail: *const u64,
-            trail_len: usize,
-            trail_count: usize,
-            marks: *const u64,
-            marks_len: usize,
-            mark_count: usize,
-            words: *const u64,
-            words_len: usize,
-            at: *mut usize,
-        ) -> u64;
-
-        pub fn trisculap_mark(
-            cells: *const u64,
-            cells_len: usize,
-            top: usize,
-            trail: *const u64,
-            trail_len: usize,
-            trail_count: usize,
-            marks: *mut u64,
-            marks_len: usize,
-            mark_count: *mut usize,
-            number: *mut usize,
-        ) -> u64;
-
-        pub fn trisculap_rollback(
-            cells: *mut u64,
-            cells_len: usize,
-            top: *mut usize,
-            trail: *mut u64,
-            trail_len: usize,
-            trail_count: *mut usize,
-            marks: *mut u64,
-            marks_len: usize,
-            mark_count: *mut usize,
-            k: usize,
-        ) -> u64;
-
-        pub fn trisculap_cut(
-            cells: *const u64,
-            cells_len: usize,
-            top: usize,
-            trail: *const u64,
-            trail_len: usize,
-            trail_count: usize,
-            marks: *mut u64,
-            marks_len: usize,
-            mark_count: *mut usize,
-            k: usize,
-        ) -> u64;
-
-        pub fn trisculap_unify(
-            cells: *mut u64,
-            cells_len: usize,
-            top: usize,
-            trail: *mut u64,
-            trail_len: usize,
-            trail_count: *mut usize,
-            marks: *const u64,
-            marks_len: usize,
-            mark_count: usize,
-            work: *mut u64,
-            work_len: usize,
-            a: usize,
-            b: usize,
-            yes: *mut u64,
-        ) -> u64;
-
-        pub fn trisculap_unify_checked(
-            cells: *mut u64,
-            cells_len: usize,
-            top: usize,
-            trail: *mut u64,
-            trail_len: usize,
-            trail_count: *mut usize,
-            marks: *const u64,
-            marks_len: usize,
-            mark_count: usize,
-            work: *mut u64,
-            work_len: usize,
-            a: usize,
-            b: usize,
-            yes: *mut u64,
-        ) -> u64;
-
-        pub fn trisculap_copy(
-            cells: *mut u64,
-            cells_len: usize,
-            top: *mut usize,
-            work: *mut u64,
-            work_len: usize,
-            root: usize,
-            at: *mut usize,
-        ) -> u64;
-
-        pub fn trisculap_cyclic(
-            cells: *const u64,
-            cells_len: usize,
-            top: usize,
-            root: usize,
-            yes: *mut u64,
-        ) -> u64;
-    }
-}
 
 /// Stands in the work buffer before a call and in answers that a refusal must leave alone.
 const UNTOUCHED: u64 = 0x5A5A_5A5A;
@@ -246,24 +113,7 @@ impl Engine for Archive {
     }
 }
 
-type UnifyCall = unsafe extern "C" fn(
-    *mut u64,
-    usize,
-    usize,
-    *mut u64,
-    usize,
-    *mut usize,
-    *const u64,
-    usize,
-    usize,
-    *mut u64,
-    usize,
-    usize,
-    usize,
-    *mut u64,
-) -> u64;
-
-fn unify(cells: &[u64], call: UnifyCall, a: usize, b: usize) -> Outcome {
+fn unify(cells: &[u64], call: c::Unify, a: usize, b: usize) -> Outcome {
     let mut lent = Lent::new(cells);
     let mut yes = UNTOUCHED;
     // Safety: each pointer is to a vector of the length given with it, and none overlap.

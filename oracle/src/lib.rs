@@ -1,11 +1,11 @@
 //! The oracle: the Rust originals run on stores in document 01's layout, a model of document 01,
 //! and what is needed to compare engines with both.
 
+#[cfg(feature = "archive")]
+pub mod archive;
 pub mod canon;
 pub mod case;
 pub mod compare;
-#[cfg(feature = "archive")]
-pub mod engine_ffi;
 pub mod expect;
 pub mod heaps;
 pub mod model;

@@ -7,7 +7,7 @@ mod random;
 use random::Random;
 use trisculap_reference::calls;
 
-use crate::ffi;
+use crate::archive;
 
 #[test]
 fn the_archive_and_the_reference_agree() {
@@ -19,7 +19,7 @@ fn the_archive_and_the_reference_agree() {
         for call in random::calls(&mut r, &store) {
             let (mut ours, mut theirs) = (store.clone(), store.clone());
             let answer = calls::perform(&mut ours, &call);
-            assert_eq!(ffi::perform(&mut theirs, &call), answer, "{call:?} on {store:x?}");
+            assert_eq!(archive::perform(&mut theirs, &call), answer, "{call:?} on {store:x?}");
             assert_eq!(theirs, ours, "{call:?} on {store:x?}");
         }
     }

@@ -7,7 +7,7 @@
 #[cfg(all(test, feature = "archive"))]
 mod agree;
 #[cfg(feature = "archive")]
-mod ffi;
+mod archive;
 mod measure;
 mod shapes;
 mod workloads;
@@ -18,7 +18,7 @@ use measure::{compare, Engine, Timing, Workload};
 use trisculap_reference::calls;
 
 #[cfg(feature = "archive")]
-const OTHER: (&str, Engine) = ("archive", ffi::perform);
+const OTHER: (&str, Engine) = ("archive", archive::perform);
 #[cfg(not(feature = "archive"))]
 const OTHER: (&str, Engine) = ("reference again", calls::perform);
 

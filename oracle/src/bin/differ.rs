@@ -18,7 +18,7 @@ use std::collections::BTreeMap;
 use std::process::ExitCode;
 
 #[cfg(feature = "archive")]
-const SUBJECT: oracle::engine_ffi::Archive = oracle::engine_ffi::Archive;
+const SUBJECT: oracle::archive::Archive = oracle::archive::Archive;
 #[cfg(not(feature = "archive"))]
 const SUBJECT: Model = Model;
 
