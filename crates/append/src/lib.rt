@@ -36,14 +36,6 @@ fn lay_at(cells: &mut [u64], top: usize, words: &[u64])
     copy_in(&mut cells[top..], words);
 }
 
-// Whether the new cells, from `top` to `up`, keep the rules of cells.
-fn new_good(cells: &[u64], top: usize, up: usize) -> bool
-    requires { ⌜ (1 ≤ top) × (up ≤ limit) × (up ≤ length (now cells)) × (cellsKeep (now cells) top up ≡ true → cellsKeep (now cells) 1 up ≡ true) ⌝ }
-    ensures { λ r. ⌜ r ≡ (cellsKeep (now (cells .entry)) top up && cellsEnd (now (cells .entry)) top up) ⌝ }
-{
-    store::cells_keep(cells, top, up) && store::cells_end(cells, top, up)
-}
-
 // Adds the words at `top` and answers the old `top`; refusals 1, 2, 7 and 9.
 pub fn append(
     cells: &mut [u64],
@@ -68,7 +60,7 @@ pub fn append(
         return Placed::Refused(Refusal::Room);
     }
     lay_at(cells, t, words);
-    if new_good(cells, t, t + n) {
+    if store::cells_good(cells, t, t + n) {
         *top = t + n;
         return Placed::At(t);
     }

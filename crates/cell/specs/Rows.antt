@@ -1,13 +1,14 @@
 -- Laws of `kindOf`: what each row of the table comes to with its tests answered, and a case for each row.
 use mathlib.Core.Path.{_≡_, refl, sym, ap, ap₂, _∙_}
 use mathlib.Core.Bool.{Bool, true, false, cond}
-use Prim.Native.Nat.{ℕ}
+use Prim.Native.Nat.{ℕ, _+_, _-_, _*_, _/_, _%_, _^_, _<_, _≤_}
+use native.Mathlib.Omega.{arith}
 use lib.IntN.{ℤ}
 use lib.Dec.{eqb}
 use borrow.Author.Tests.{eqb-true, ne-eqb}
 use Rattle.cell.specs.declared.Kind.{Kind}
 use Rattle.cell.specs.declared.Kind.the-variants.{Var, Str, Lis, Atom, Fixnum, Bad}
-use Rattle.cell.specs.Word.{tagOf, forwardOf, markOf, valueOf, nameOf, arityOf, spareOf}
+use Rattle.cell.specs.Word.{tagOf, forwardOf, markOf, valueOf, nameOf, arityOf, spareOf, arityBits, rebuilt}
 use Rattle.cell.specs.Fixnum.{toNumber}
 use Rattle.cell.specs.Kinds.{byTag, kindOf}
 
@@ -79,3 +80,16 @@ module _ (P : Kind → Type 0) (w : ℕ) where
       (λ _. cond-cases P (eqb (tagOf w) 5) _ _ (λ e. n (row 5 e)) (λ _. bad))))))
       (λ _. bad))
       (λ _. bad)
+
+-- ---- an Atom by its bits above the arity alone
+pub atom-bits : (w : ℕ) → w / 2 ^ (32 + arityBits) ≡ 2 ^ (26 - arityBits) * 4 → Atom (nameOf w) (arityOf w) ≡ kindOf w
+atom-bits w e = is-atom w (omega arith) (omega arith) _ _ (omega arith) (omega arith) refl refl
+
+pub row-bits : (w : ℕ) → Row 4 w → spareOf w ≡ 0 → w / 2 ^ (32 + arityBits) ≡ 2 ^ (26 - arityBits) * 4
+row-bits w r s =
+    let low : 4 * 2 ^ 58 ≤ w = omega arith in
+    let high : w < 4 * 2 ^ 58 + 2 ^ 56 = omega (arith, rebuilt w) in
+    one (w / 2 ^ 40) (omega arith) (omega arith) s
+  where
+    one : (q : ℕ) → 2 ^ 20 ≤ q → q < 2 ^ 20 + 2 ^ 16 → q % 2 ^ 16 ≡ 0 → q ≡ 2 ^ 20
+    one q a b e = omega arith

@@ -22,6 +22,7 @@ use Rattle.store.specs.Ends.{ends-in}
 use Rattle.store.specs.WellFormed.{parts, along, the-rest, no-low}
 use Rattle.trail.specs.Rules.{unboundAt, namesBound, entryNew, entryKeeps, trailUsed, trailGood, markWidth, markTop, markTrail, topBefore, trailBefore, marksGood}
 use Rattle.trail.specs.State.{State, holds}
+use Rattle.trail.specs.Table.{bitAt}
 use Rattle.trail.specs.Seen.{Seen, Named}
 use Rattle.trail.specs.Facts.{TrailGood, MarkGood, MarksGood, marks-whole, mark-agrees, Holds, bound-used}
 use Rattle.store.specs.Zeros.{zeroed, length-zeroed, zeroed-below, zeroed-from}
@@ -30,7 +31,7 @@ use Rattle.marks.specs.Calls.{rolled}
 
 -- ---- the pass: `freed` says 1 of the cells that become unbound, and t is the `top` to go back to
 abbrev pub isFreed : List ℕ → ℕ → Bool
-isFreed freed i = eqb (getD freed i 0) 1
+isFreed freed i = eqb (bitAt freed i) 1
 
 -- what is left to ask of a cell that kept to its row before
 unfoldable pub rowLeft : List ℕ → ℕ → ℕ → Kind → Bool
@@ -294,9 +295,9 @@ module _ (s : State) (h : Holds s) (k : ℕ) (a : 1 ≤ k) (b : k ≤ s .marked)
     to-end = let p = mark-k .trail-within in omega arith
 
     -- a cell that is not freed is as it was
-    not-freed : (j : ℕ) → (getD freed j 0 ≡ 1 → ⊥) → getD u₁ j 0 ≡ getD (s .cells) j 0
+    not-freed : (j : ℕ) → (bitAt freed j ≡ 1 → ⊥) → getD u₁ j 0 ≡ getD (s .cells) j 0
     not-freed j n =
-        ⊎-elim (λ e. e) (λ m. absurd (n (subst (λ (x : ℕ). getD freed x 0 ≡ 1) (m .3) (seen .noted (m .0) (m .1) (let l = m .2 in let z = to-end in omega arith)))))
+        ⊎-elim (λ e. e) (λ m. absurd (n (subst (λ (x : ℕ). bitAt freed x ≡ 1) (m .3) (seen .noted (m .0) (m .1) (let l = m .2 in let z = to-end in omega arith)))))
         (unbind-or (s .trail) (s .trailed - c₁) c₁ (s .cells) j)
 
     same : (j : ℕ) → j < t₁ → isFreed freed j ≡ false → getD (rolled s k .cells) j 0 ≡ getD (s .cells) j 0
@@ -310,7 +311,7 @@ module _ (s : State) (h : Holds s) (k : ℕ) (a : 1 ≤ k) (b : k ≤ s .marked)
         zeroed-below t₁ u₁ top-fits j l ∙ unbound (s .trail) (s .trailed - c₁) c₁ (s .cells) j (omega arith) (subst (λ (n : ℕ). Named (s .trail) c₁ n j) (sym to-end) m)
 
     -- no entry names cell 0
-    zero-kept : getD freed 0 0 ≡ 1 → ⊥
+    zero-kept : bitAt freed 0 ≡ 1 → ⊥
     zero-kept e = let m = seen .known 0 e in let q = m .3 in let p = named-used (m .0) (m .2) .0 in omega arith
 
     -- the first entries name other cells than those freed

@@ -1,47 +1,23 @@
--- What a `_` arm beside an arm for Atom tells, of the two tests on kinds.
-use mathlib.Core.Path.{_≡_, refl, sym, ap, _∙_}
+-- What each arm of a match on a cell's kind tells: of a step from the cell, and of how it stands to its row.
+use mathlib.Core.Path.{_≡_, refl, sym, ap, subst, _∙_}
 use mathlib.Core.Bool.{Bool, true, false, _&&_, false≢true}
 use mathlib.Core.List.{List, [], _∷_}
 use mathlib.Core.Logic.{inl, inr}
 use Prim.Native.Nat.{ℕ, _+_, _<_}
 use lib.IntN.{ℤ}
 use lib.Dec.{leb, ltb}
-use borrow.Author.Tests.{ltb-true}
+use borrow.Author.Tests.{ltb-true, lt-ltb}
 use native.Mathlib.Omega.{arith}
 use types.Run.{OneOf}
 use denote.Enum.Declared.{tagOf}
 use Rattle.cell.proofs.Kind.{the-type}
 use Rattle.cell.specs.declared.Kind.{Kind}
 use Rattle.cell.specs.declared.Kind.the-variants.{Var, Str, Lis, Atom, Fixnum, Bad}
-use Rattle.store.specs.Store.{kindAt, isHeader, noHeader, isAtom, termAt, atomAt, runAt, keeps, step, stepKind}
-
-three : OneOf (0 ∷ 1 ∷ 2 ∷ 4 ∷ 5 ∷ []) 3 → ⊥
-three (inl e) = omega arith
-three (inr (inl e)) = omega arith
-three (inr (inr (inl e))) = omega arith
-three (inr (inr (inr (inl e)))) = omega arith
-three (inr (inr (inr (inr e)))) = omega arith
-
-abbrev pub Other : Kind → Type 0
-Other k = OneOf (0 ∷ 1 ∷ 2 ∷ 4 ∷ 5 ∷ []) (tagOf the-type k)
-
-pub no-atom : (k : Kind) → Other k → false ≡ isAtom k
-unfolding isAtom
-no-atom (Var v) h = refl
-no-atom (Str v) h = refl
-no-atom (Lis v) h = refl
-no-atom (Atom n a) h = absurd (three h)
-no-atom (Fixnum z) h = refl
-no-atom Bad h = refl
-
-pub no-header : (k : Kind) → Other k → false ≡ isHeader k
-unfolding isHeader
-no-header (Var v) h = refl
-no-header (Str v) h = refl
-no-header (Lis v) h = refl
-no-header (Atom n a) h = absurd (three h)
-no-header (Fixnum z) h = refl
-no-header Bad h = refl
+use Rattle.store.specs.All.{allFrom}
+use Rattle.store.specs.declared.Standing.{Standing}
+use Rattle.store.specs.declared.Standing.the-variants.{Breaks, Stays, Leads, Heads}
+use Rattle.store.specs.Survey.{keptOf, Stands, StandsAt}
+use Rattle.store.specs.Store.{kindAt, isHeader, noHeader, termAt, atomAt, runAt, keeps, step, stepKind}
 
 zeroth : OneOf (1 ∷ 2 ∷ 3 ∷ 4 ∷ 5 ∷ []) 0 → ⊥
 zeroth (inl e) = omega arith
@@ -69,33 +45,49 @@ module _ (s : List ℕ) (i : ℕ) (k : Kind) (is : k ≡ kindAt s i) where
   step-goes v e = ap (stepKind i) (sym e ∙ is)
 
   -- each arm's answer, without the definition's text
-  module _ (top : ℕ) (r : Bool) where
-    keeps-by : (j : Kind) → k ≡ j → r ≡ keeps s top i j → r ≡ keeps s top i (kindAt s i)
-    keeps-by j e q = q ∙ ap (keeps s top i) (sym e ∙ is)
+  module _ (top : ℕ) where
+    by : (j : Kind) → k ≡ j → (r : Standing) → Stands s top i j r → StandsAt s top i r
+    by j e r = subst (λ (x : Kind). Stands s top i x r) (sym e ∙ is)
 
-    pub keeps-var : (v : ℕ) → k ≡ Var v → r ≡ termAt s top v → r ≡ keeps s top i (kindAt s i)
-    unfolding keeps
-    keeps-var v e q = keeps-by (Var v) e q
+    module _ (v : ℕ) (e : k ≡ Var v) (b : Bool) (q : b ≡ termAt s top v) where
+      pub var-breaks : b ≡ false → StandsAt s top i Breaks
+      unfolding Stands keeps
+      var-breaks f = by (Var v) e Breaks (sym q ∙ f)
 
-    pub keeps-str : (f : ℕ) → k ≡ Str f → r ≡ atomAt s top f → r ≡ keeps s top i (kindAt s i)
-    unfolding keeps
-    keeps-str f e q = keeps-by (Str f) e q
+      pub var-stays : b ≡ true → v ≡ i → StandsAt s top i Stays
+      unfolding Stands keeps isHeader stepKind
+      var-stays t n = by (Var v) e Stays (sym q ∙ t, refl, n)
 
-    pub keeps-lis : (l : ℕ) → k ≡ Lis l → r ≡ (termAt s top l && termAt s top (l + 1)) → r ≡ keeps s top i (kindAt s i)
-    unfolding keeps
-    keeps-lis l e q = keeps-by (Lis l) e q
+      pub var-leads : b ≡ true → StandsAt s top i Leads
+      unfolding Stands keeps isHeader
+      var-leads t = by (Var v) e Leads (sym q ∙ t, refl)
 
-    pub keeps-atom : (n a : ℕ) → k ≡ Atom n a → r ≡ runAt s top i a → r ≡ keeps s top i (kindAt s i)
-    unfolding keeps
-    keeps-atom n a e q = keeps-by (Atom n a) e q
+    pub kept-str : (f : ℕ) → k ≡ Str f → (b : Bool) → b ≡ atomAt s top f → (r : Standing) → r ≡ keptOf b → StandsAt s top i r
+    unfolding keptOf Stands keeps isHeader stepKind
+    kept-str f e true q r z = by (Str f) e r (subst (Stands s top i (Str f)) (sym z) (sym q, refl, refl))
+    kept-str f e false q r z = by (Str f) e r (subst (Stands s top i (Str f)) (sym z) (sym q))
 
-    pub keeps-fixnum : (z : ℤ) → k ≡ Fixnum z → r ≡ true → r ≡ keeps s top i (kindAt s i)
-    unfolding keeps
-    keeps-fixnum z e q = keeps-by (Fixnum z) e q
+    pub kept-lis : (l : ℕ) → k ≡ Lis l → (b : Bool) → b ≡ (termAt s top l && termAt s top (l + 1)) → (r : Standing) → r ≡ keptOf b → StandsAt s top i r
+    unfolding keptOf Stands keeps isHeader stepKind
+    kept-lis l e true q r z = by (Lis l) e r (subst (Stands s top i (Lis l)) (sym z) (sym q, refl, refl))
+    kept-lis l e false q r z = by (Lis l) e r (subst (Stands s top i (Lis l)) (sym z) (sym q))
 
-    pub keeps-bad : k ≡ Bad → r ≡ false → r ≡ keeps s top i (kindAt s i)
-    unfolding keeps
-    keeps-bad e q = keeps-by Bad e q
+    module _ (n a : ℕ) (e : k ≡ Atom n a) where
+      pub atom-stays : i < top → a ≡ 0 → StandsAt s top i Stays
+      unfolding Stands keeps isHeader stepKind runAt allFrom
+      atom-stays l z = by (Atom n a) e Stays (rw (z, lt-ltb (i + 0) top (omega arith)) refl, rw z refl, refl)
+
+      pub atom-heads : (a ≡ 0 → ⊥) → StandsAt s top i (Heads a)
+      unfolding Stands keeps isHeader stepKind
+      atom-heads z = by (Atom n a) e (Heads a) (refl, rw (lt-ltb 0 a (omega arith)) refl, refl)
+
+    pub fixnum-stays : (z : ℤ) → k ≡ Fixnum z → StandsAt s top i Stays
+    unfolding Stands keeps isHeader stepKind
+    fixnum-stays z e = by (Fixnum z) e Stays (refl, refl, refl)
+
+    pub bad-breaks : k ≡ Bad → StandsAt s top i Breaks
+    unfolding Stands keeps
+    bad-breaks e = by Bad e Breaks refl
 
 pub and-left : (a b : Bool) → (a && b) ≡ true → a ≡ true
 and-left true b h = refl

@@ -1,2 +1,3 @@
 -- Laws that only the proofs of this crate's functions need.
 mod ByKind
+mod ByWord

@@ -2,6 +2,7 @@
 pub mod All
 pub mod Store
 pub mod Follow
+pub mod Survey
 -- Laws of them.
 pub mod Zeros
 pub mod Steps

@@ -38,6 +38,13 @@ module _ (s : List ℕ) (top : ℕ) where
         unfolding wellFormed
         the-rest z = rw (le-leb 1 top a, le-leb top limit b, le-leb top (length s) r, eq-eqb (getD s 0 0) 0 z)
 
+        pub no-zeros : getD s 0 0 ≡ 0 → zeroFrom s top ≡ false → false ≡ wellFormed s top
+        no-zeros z f = rw (← the-rest z, f)
+
+        -- with all free cells 0 the used ones decide
+        pub the-used : getD s 0 0 ≡ 0 → zeroFrom s top ≡ true → (cellsKeep s 1 top && cellsEnd s 1 top) ≡ wellFormed s top
+        the-used z f = rw (← the-rest z, f)
+
 -- ---- the test and the facts are the same
 module _ (s : List ℕ) (top : ℕ) where
   ends-of : cellsEnd s 1 top ≡ true → (i : ℕ) → 1 ≤ i → i < top → Ends s i

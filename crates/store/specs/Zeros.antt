@@ -1,14 +1,16 @@
 -- Words that are all 0 from a place on: the test as a fact, and back; and words that are made so.
 use mathlib.Core.Path.{_≡_, refl, sym, ap, _∙_}
-use mathlib.Core.Bool.{true}
+use mathlib.Core.Bool.{true, _&&_, and-true, and-assoc}
 use mathlib.Core.List.{List, _++_}
 use Prim.Native.Nat.{ℕ, zero, suc, _+_, _-_, _<_, _≤_}
 use native.Mathlib.Omega.{arith}
 use native.Mathlib.Decide.{ℕ-discrete, decLt}
 use lib.ListN.{length, getD, set, take, replicate, length-append, length-take, length-set, length-replicate, List·getD-eq-default, List·getD-append}
 use lib.Seq.{getD-set-same, getD-set-other, getD-take, ext-getD, length-take-le, getD-append-add}
-use borrow.Author.Tests.{eqb-true, eq-eqb}
-use Rattle.store.specs.All.{all-holds, all-true}
+use lib.Dec.{eqb}
+use lib.Bits.{bitOr, or-add-and, and-le-l, and-le-r}
+use borrow.Author.Tests.{eqb-true, eq-eqb, ne-eqb}
+use Rattle.store.specs.All.{allFrom, all-holds, all-true, all-done, all-split}
 use Rattle.store.specs.Store.{isZero, zeroFrom}
 
 pub zeros : (l : List ℕ) (n : ℕ) → zeroFrom l n ≡ true → (i : ℕ) → n ≤ i → getD l i 0 ≡ 0
@@ -19,6 +21,28 @@ zeros l n h i g =
 pub zeros-back : (l : List ℕ) (n : ℕ) → ((i : ℕ) → n ≤ i → getD l i 0 ≡ 0) → zeroFrom l n ≡ true
 unfolding zeroFrom
 zeros-back l n h = all-true (isZero l) (length l - n) n (λ i a b. eq-eqb (getD l i 0) 0 (h i a))
+
+-- ---- words that are or-ed, when `i` has been reached
+-- two words or-ed are 0 where both are
+or-zero : (a b : ℕ) → eqb (bitOr a b) 0 ≡ (eqb a 0 && eqb b 0)
+or-zero a b =
+    let s = or-add-and a b in
+    let l = and-le-l a b in
+    let r = and-le-r a b in
+    elim (ℕ-discrete (bitOr a b) 0) [
+      | yes e ↦ rw (eq-eqb (bitOr a b) 0 e, eq-eqb a 0 (omega arith), eq-eqb b 0 (omega arith))
+      | no n ↦ elim (ℕ-discrete a 0) [
+        | yes z ↦ (let m : b ≡ 0 → ⊥ = λ y. n (omega arith) in rw (ne-eqb (bitOr a b) 0 n, ne-eqb b 0 m, eq-eqb a 0 z))
+        | no z ↦ rw (ne-eqb (bitOr a b) 0 n, ne-eqb a 0 z)
+      ]
+    ]
+
+module _ (l : List ℕ) (seen i : ℕ) where
+  pub or-more : i < length l → (eqb seen 0 && allFrom i (length l - i) (isZero l)) ≡ (eqb (bitOr seen (getD l i 0)) 0 && allFrom (i + 1) (length l - (i + 1)) (isZero l))
+  or-more h = rw (all-split (isZero l) i h, or-zero seen (getD l i 0), and-assoc)
+
+  pub or-done : length l ≤ i → (eqb seen 0 && allFrom i (length l - i) (isZero l)) ≡ eqb seen 0
+  or-done h = rw (all-done (isZero l) i h) (and-true (eqb seen 0))
 
 -- ---- words that become 0
 pub zero-at : (n j : ℕ) → getD {A = ℕ} (replicate n 0) j 0 ≡ 0

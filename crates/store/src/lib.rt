@@ -1,9 +1,11 @@
 // A store's cells: whether any words at all are well formed, and following a cell along Vars.
 ghost use mathlib.Core.Path.{_≡_};
-ghost use mathlib.Core.Bool.{true};
+ghost use mathlib.Core.Bool.{true, _&&_};
 ghost use Prim.Native.Nat.{ℕ, _+_, _<_, _≤_};
 ghost use lib.ListN.{length, getD};
-ghost use Rattle.store.specs.Store.{limit, kindAt, isHeader, isAtom, headerAt, termAt, atomAt, runAt, keeps, step, endOf, endsAt, zeroFrom, cellsKeep, cellsEnd, wellFormed, WellFormed};
+ghost use Rattle.cell.specs.Kinds.{kindOf};
+ghost use Rattle.store.specs.Store.{limit, kindAt, isHeader, isAtom, headerAt, termAt, atomAt, keeps, step, endOf, endsAt, zeroFrom, cellsKeep, cellsEnd, wellFormed, WellFormed};
+ghost use Rattle.store.specs.Survey.{keptOf, StandsAt};
 ghost use Rattle.store.specs.Zeros.{zeroed};
 ghost use Rattle.store.specs.Follow.{followed};
 use cell::Cell;
@@ -14,22 +16,24 @@ use cell::Refusal;
 // The most cells that a store may use.
 pub const LIMIT: usize = 4096;
 
-fn is_header(k: Kind) -> bool
-    ensures { λ r. ⌜ r ≡ isHeader k ⌝ }
+// The least and the greatest word of an Atom of arity above 0.
+const HEADER_FIRST: u64 = 0x1000_0001_0000_0000;
+
+const HEADER_LAST: u64 = 0x1000_00FF_FFFF_FFFF;
+
+// The bits of an Atom's word above its arity.
+const ATOM_BITS: u64 = 0x0010_0000;
+
+fn is_header(w: u64) -> bool
+    ensures { λ r. ⌜ r ≡ isHeader (kindOf w) ⌝ }
 {
-    match k {
-        Kind::Atom { name: _, arity } => 0 < arity,
-        _ => false,
-    }
+    HEADER_FIRST <= w && w <= HEADER_LAST
 }
 
-fn is_atom(k: Kind) -> bool
-    ensures { λ r. ⌜ r ≡ isAtom k ⌝ }
+fn is_atom(w: u64) -> bool
+    ensures { λ r. ⌜ r ≡ isAtom (kindOf w) ⌝ }
 {
-    match k {
-        Kind::Atom { name: _, arity: _ } => true,
-        _ => false,
-    }
+    w >> 40 == ATOM_BITS
 }
 
 pub fn kind_at(cells: &[u64], i: usize) -> Kind
@@ -44,7 +48,7 @@ fn header_at(cells: &[u64], i: usize) -> bool
     requires { ⌜ i < length (now cells) ⌝ }
     ensures { λ r. ⌜ r ≡ headerAt (now (cells .entry)) i ⌝ }
 {
-    is_header(kind_at(cells, i))
+    is_header(cells[i])
 }
 
 // Whether a cell stands for a term: a used cell from 1 that is no header.
@@ -71,47 +75,61 @@ fn atom_at(cells: &[u64], top: usize, f: usize) -> bool
     if top <= f {
         return false;
     }
-    is_atom(kind_at(cells, f))
+    is_atom(cells[f])
 }
 
-// Whether the arguments behind an Atom are used cells, and none is a header.
-fn run_at(cells: &[u64], top: usize, f: usize, arity: usize) -> bool
-    requires { ⌜ (f < top) × (top ≤ limit) × (top ≤ length (now cells)) ⌝ }
-    ensures { λ r. ⌜ r ≡ runAt (now (cells .entry)) top f arity ⌝ }
+// How a used cell stands to its row of the table of kinds: it breaks it; it keeps to it and
+// following stays there; it keeps to it as a bound Var, which leads to another cell; or it is a
+// header with so many arguments, which are still to be judged.
+enum Standing {
+    Breaks,
+    Stays,
+    Leads,
+    Heads(usize),
+}
+
+fn kept(keeps: bool) -> Standing
+    ensures { λ r. ⌜ r ≡ keptOf keeps ⌝ }
 {
-    if top - f <= arity {
-        return false;
+    if keeps {
+        Standing::Stays
+    } else {
+        Standing::Breaks
     }
-    let e = f + arity;
-    let mut i = f + 1;
-    while i <= e {
-        if header_at(cells, i) {
-            return false;
-        }
-        i += 1;
-    }
-    true
 }
 
-// Whether a used cell keeps to its row of the table of kinds.
-fn keeps_at(cells: &[u64], top: usize, i: usize) -> bool
+fn stands_at(cells: &[u64], top: usize, i: usize) -> Standing
     requires { ⌜ (i < top) × (top ≤ limit) × (top ≤ length (now cells)) ⌝ }
-    ensures { λ r. ⌜ r ≡ keeps (now (cells .entry)) top i (kindAt (now (cells .entry)) i) ⌝ }
+    ensures { λ r. ⌜ StandsAt (now (cells .entry)) top i r ⌝ }
 {
-    let k = kind_at(cells, i);
-    match k {
-        Kind::Var(v) => term_at(cells, top, v),
-        Kind::Str(f) => atom_at(cells, top, f),
-        Kind::Lis(l) => {
-            if term_at(cells, top, l) {
-                term_at(cells, top, l + 1)
+    match kind_at(cells, i) {
+        Kind::Var(v) => {
+            if !term_at(cells, top, v) {
+                return Standing::Breaks;
+            }
+            if v == i {
+                Standing::Stays
             } else {
-                false
+                Standing::Leads
             }
         }
-        Kind::Atom { name: _, arity } => run_at(cells, top, i, arity),
-        Kind::Fixnum(_) => true,
-        Kind::Bad => false,
+        Kind::Str(f) => kept(atom_at(cells, top, f)),
+        Kind::Lis(l) => {
+            if term_at(cells, top, l) {
+                kept(term_at(cells, top, l + 1))
+            } else {
+                Standing::Breaks
+            }
+        }
+        Kind::Atom { name: _, arity } => {
+            if arity == 0 {
+                Standing::Stays
+            } else {
+                Standing::Heads(arity)
+            }
+        }
+        Kind::Fixnum(_) => Standing::Stays,
+        Kind::Bad => Standing::Breaks,
     }
 }
 
@@ -144,26 +162,29 @@ fn end_of(cells: &[u64], top: usize, at: usize) -> usize
     cur
 }
 
+// Whether following ends. Only a bound Var has to be followed.
 fn ends_at(cells: &[u64], top: usize, at: usize) -> bool
     requires { ⌜ (1 ≤ at) × (at < top) × (top ≤ length (now cells)) × (cellsKeep (now cells) 1 top ≡ true) ⌝ }
     ensures { λ r. ⌜ r ≡ endsAt (now (cells .entry)) top at ⌝ }
 {
+    if step_of(cells, at) == at {
+        return true;
+    }
     let e = end_of(cells, top, at);
     step_of(cells, e) == e
 }
 
-// Whether all words from a place on are 0.
+// Whether all words from a place on are 0: all of them or-ed, with no branch for each.
 pub fn zero_from(words: &[u64], from: usize) -> bool
     ensures { λ r. ⌜ r ≡ zeroFrom (now (words .entry)) from ⌝ }
 {
+    let mut seen: u64 = 0;
     let mut i = from;
     while i < words.len() {
-        if words[i] != 0 {
-            return false;
-        }
+        seen |= words[i];
         i += 1;
     }
-    true
+    seen == 0
 }
 
 // The words from a place to another become 0; those behind are 0 already.
@@ -178,23 +199,8 @@ pub fn zero_to(words: &mut [u64], from: usize, to: usize)
     }
 }
 
-// Whether each used cell from a place on keeps to its row.
-pub fn cells_keep(cells: &[u64], from: usize, top: usize) -> bool
-    requires { ⌜ (top ≤ limit) × (top ≤ length (now cells)) ⌝ }
-    ensures { λ r. ⌜ r ≡ cellsKeep (now (cells .entry)) from top ⌝ }
-{
-    let mut i = from;
-    while i < top {
-        if !keeps_at(cells, top, i) {
-            return false;
-        }
-        i += 1;
-    }
-    true
-}
-
 // Whether following ends at each used cell from a place on.
-pub fn cells_end(cells: &[u64], from: usize, top: usize) -> bool
+fn cells_end(cells: &[u64], from: usize, top: usize) -> bool
     requires { ⌜ (1 ≤ from) × (top ≤ length (now cells)) × (cellsKeep (now cells) 1 top ≡ true) ⌝ }
     ensures { λ r. ⌜ r ≡ cellsEnd (now (cells .entry)) from top ⌝ }
 {
@@ -204,6 +210,42 @@ pub fn cells_end(cells: &[u64], from: usize, top: usize) -> bool
             return false;
         }
         i += 1;
+    }
+    true
+}
+
+// Whether the used cells from a place on keep the rules of cells, where those before keep to their
+// rows if these do. A header up to `last`, the last argument of the header before it, breaks that
+// one's row. Only where a Var is bound is there a chain to follow.
+pub fn cells_good(cells: &[u64], from: usize, top: usize) -> bool
+    requires { ⌜ (1 ≤ from) × (top ≤ limit) × (top ≤ length (now cells)) × (cellsKeep (now cells) from top ≡ true → cellsKeep (now cells) 1 top ≡ true) ⌝ }
+    ensures { λ r. ⌜ r ≡ (cellsKeep (now (cells .entry)) from top && cellsEnd (now (cells .entry)) from top) ⌝ }
+{
+    let mut leads = false;
+    let mut last = 0;
+    let mut i = from;
+    while i < top {
+        match stands_at(cells, top, i) {
+            Standing::Breaks => return false,
+            Standing::Stays => i += 1,
+            Standing::Leads => {
+                leads = true;
+                i += 1;
+            }
+            Standing::Heads(arity) => {
+                if i <= last {
+                    return false;
+                }
+                if top - i <= arity {
+                    return false;
+                }
+                last = i + arity;
+                i += 1;
+            }
+        }
+    }
+    if leads {
+        return cells_end(cells, from, top);
     }
     true
 }
@@ -227,10 +269,7 @@ pub fn check_cells(cells: &[u64], top: usize) -> bool
     if !zero_from(cells, top) {
         return false;
     }
-    if !cells_keep(cells, 1, top) {
-        return false;
-    }
-    cells_end(cells, 1, top)
+    cells_good(cells, 1, top)
 }
 
 // Follows a cell: the word where it ends; refusals 1 and 3.

@@ -4,4 +4,5 @@ pub mod State
 -- The same rules as facts.
 pub mod Facts
 -- The table with which the code finds entries that are alike.
+pub mod Table
 pub mod Seen

@@ -69,11 +69,11 @@ returns-3 c = let d = c .before .before in let w = cells-are _ (words d) (good d
 lay-at-requires : tie.Need-lay-at-requires
 lay-at-requires c κs = let f = fitting (c .before) in let w = cells-are _ (words (c .before .before .before)) (good (c .before .before .before)) in (w .high, f .1)
 
-add-new-good : tie.Need-add-new-good
-add-new-good c = search needs
+add-cells-good : tie.Need-add-cells-good
+add-cells-good c = search needs
 
-new-good-requires : tie.Need-new-good-requires
-new-good-requires c κs =
+cells-good-requires : tie.Need-cells-good-requires
+cells-good-requires c κs =
     let d = c .before .before .before .before .before in
     let f = fitting d in
     let w = cells-are _ (words (d .before .before)) (good (d .before .before)) in
@@ -90,7 +90,7 @@ returns-4 : tie.Need-returns-4
 returns-4 c =
     let d = c .before .before .before .before .before .before .before in
     let f = fitting d in
-    placed _ _ (good (d .before .before)) (f .0) (f .1) _ (c .before .before .before .before .before .lay-at .ensures) _ (c .before .new-good .ensures) (c .if3 .taken)
+    placed _ _ (good (d .before .before)) (f .0) (f .1) _ (c .before .before .before .before .before .lay-at .ensures) _ (c .before .cells-good .ensures) (c .if3 .taken)
 
 add-zero-to : tie.Need-add-zero-to
 add-zero-to c = search needs
@@ -110,7 +110,7 @@ returns-5 c =
     let b = c .before .before .before .before in
     let d = b .before .before .before .before .before .before .before in
     let f = fitting d in
-    put-away _ _ (good (d .before .before)) (f .0) (f .1) _ (b .before .before .before .before .before .lay-at .ensures) _ (b .before .new-good .ensures) (b .if3 .left) _ (c .before .before .zero-to .ensures)
+    put-away _ _ (good (d .before .before)) (f .0) (f .1) _ (b .before .before .before .before .before .lay-at .ensures) _ (b .before .cells-good .ensures) (b .if3 .left) _ (c .before .before .zero-to .ensures)
 
 pub append-spec : {M : Type 1} → statement M
 append-spec =
@@ -128,8 +128,8 @@ append-spec =
     same-length-3
     returns-3
     lay-at-requires
-    add-new-good
-    new-good-requires
+    add-cells-good
+    cells-good-requires
     add-top
     same-length-4
     returns-4

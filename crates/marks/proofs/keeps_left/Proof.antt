@@ -7,18 +7,18 @@ use native.Mathlib.Decide.{decLt}
 use lib.Dec.{ltb}
 use denote.Ref.{now}
 use borrow.Author.Needs.{needs}
-use borrow.Author.Tests.{eq-eqb, ne-eqb, lt-ltb, le-ltb}
+use borrow.Author.Tests.{lt-ltb, le-ltb}
 use Rattle.cell.specs.declared.Kind.{Kind}
 use Rattle.marks.specs.Left.{rowLeft, keepsLeft}
 use Rattle.marks.proofs.keeps_left.Statement.{statement}
 use Rattle.marks.proofs.keeps_left.Tie as tie
 
-element-copy-out-if1 : tie.Need-element-copy-out-if1
-element-copy-out-if1 c = search needs
+is-noted-requires : tie.Need-is-noted-requires
+is-noted-requires c κs = search needs
 
 returns : tie.Need-returns
 unfolding keepsLeft
-returns c = rw (eq-eqb _ _ (c .if1 .taken))
+returns c = rw (sym (c .before .is-noted .ensures) ∙ c .if1 .taken)
 
 kind-at-requires : tie.Need-kind-at-requires
 kind-at-requires c κs = search needs
@@ -28,7 +28,7 @@ arm : (c : tie.After-kind-at) (k : Kind) → c .kind-at .result ≡ k → (r : B
 unfolding keepsLeft
 arm c k e r q =
     let a = c .before .before .before .before .args in
-    rw (ne-eqb _ _ (c .before .if1 .left), ← c .kind-at .ensures) (q ∙ ap (rowLeft (now (a .freed)) (a .t) (a .i)) (sym e))
+    rw (sym (c .before .before .is-noted .ensures) ∙ c .before .if1 .left, ← c .kind-at .ensures) (q ∙ ap (rowLeft (now (a .freed)) (a .t) (a .i)) (sym e))
 
 -- a sum below t, tested without the sum
 less : (x y t : ℕ) → x ≤ t → ltb y (t - x) ≡ ltb (x + y) t
@@ -40,8 +40,8 @@ enum-known-v c = search needs
 enum-known-f : tie.Need-enum-known-f
 enum-known-f c = search needs
 
-element-copy-out-result : tie.Need-element-copy-out-result
-element-copy-out-result c = search needs
+is-noted-requires-2 : tie.Need-is-noted-requires-2
+is-noted-requires-2 c κs = search needs
 
 enum-known-l : tie.Need-enum-known-l
 enum-known-l c = search needs
@@ -67,7 +67,7 @@ returns-2 c = arm (c .before .before .before) _ (c .before .v .given .1) _ refl
 
 returns-3 : tie.Need-returns-3
 unfolding rowLeft
-returns-3 c = arm (c .before .before .before .before .before) _ (c .before .before .before .f .given .1) _ (rw (lt-ltb _ _ (c .before .if2 .taken)))
+returns-3 c = arm (c .before .before .before .before .before) _ (c .before .before .before .f .given .1) _ (rw (lt-ltb _ _ (c .before .if2 .taken), ← c .is-noted2 .ensures))
 
 returns-4 : tie.Need-returns-4
 unfolding rowLeft
@@ -96,12 +96,12 @@ pub keeps-left-spec : {M : Type 1} → statement M
 keeps-left-spec =
     tie.close
     (tie.spec
-    element-copy-out-if1
+    is-noted-requires
     returns
     kind-at-requires
     enum-known-v
     enum-known-f
-    element-copy-out-result
+    is-noted-requires-2
     enum-known-l
     sub-result
     enum-known-arity

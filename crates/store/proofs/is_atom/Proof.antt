@@ -1,20 +1,10 @@
--- `store::is_atom` meets its contract, by the kind.
-use mathlib.Core.Path.{sym, ap}
-use borrow.Author.Needs.{needs}
-use Rattle.store.specs.Store.{isAtom}
-use Rattle.store.proofs.ByKind.{no-atom}
+-- `store::is_atom` meets its contract: the bits above the arity tell an Atom.
+use Rattle.store.proofs.ByWord.{atom-word}
 use Rattle.store.proofs.is_atom.Statement.{statement}
 use Rattle.store.proofs.is_atom.Tie as tie
 
-enum-told : tie.Need-enum-told
-enum-told c = search needs
-
 returns : tie.Need-returns
-unfolding isAtom
-returns c = sym (ap isAtom (c .enum-told .given .1))
-
-returns-2 : tie.Need-returns-2
-returns-2 c = no-atom _ (c .match .keys2)
+returns c = atom-word (c .args .w)
 
 pub is-atom-spec : {M : Type 1} → statement M
-is-atom-spec = tie.close (tie.spec enum-told returns returns-2)
+is-atom-spec = tie.close (tie.spec returns)
