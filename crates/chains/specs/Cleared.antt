@@ -31,9 +31,12 @@ module _ (n : ℕ) (work : List ℕ) (l : n ≤ length work) where
       let z = length-replicate {A = ℕ} n 0 in
       ap (λ (m : ℕ). getD (cleared n work) (m + i) 0) (sym z) ∙ getD-append-add (replicate n 0) (drop n work) i 0 ∙ getD-drop n work i 0
 
-  -- what differs from it only below n is cleared to the same
-  pub cleared-again : (new : List ℕ) → length new ≡ length work → ((i : ℕ) → n ≤ i → getD new i 0 ≡ getD (cleared n work) i 0) → cleared n new ≡ cleared n work
-  unfolding cleared
-  cleared-again new e f =
-      ap (λ (y : List ℕ). replicate n 0 ++ y)
-      (ext-getD 0 (drop n new) (drop n work) (simp length-drop (ap (λ (m : ℕ). m - n) e)) (λ i h. getD-drop n new i 0 ∙ f (n + i) (omega arith) ∙ cleared-rest i ∙ sym (getD-drop n work i 0)))
+  pub cleared-other : (i : ℕ) → n ≤ i → getD (cleared n work) i 0 ≡ getD work i 0
+  cleared-other i h = let z : n + (i - n) ≡ i = omega arith in rw z at (cleared-rest (i - n))
+
+-- lists that differ only below n are cleared to the same
+pub cleared-same : (n : ℕ) (old new : List ℕ) → length new ≡ length old → ((i : ℕ) → n ≤ i → getD new i 0 ≡ getD old i 0) → cleared n new ≡ cleared n old
+unfolding cleared
+cleared-same n old new e f =
+    ap (λ (y : List ℕ). replicate n 0 ++ y)
+    (ext-getD 0 (drop n new) (drop n old) (simp length-drop (ap (λ (m : ℕ). m - n) e)) (λ i h. getD-drop n new i 0 ∙ f (n + i) (omega arith) ∙ sym (getD-drop n old i 0)))

@@ -66,11 +66,11 @@ module _ (cells work : List ℕ) (end : ℕ) where
     act-var v x w c e q d y = ap₂ (λ (a b : List ℕ). stateOf a b end) (d ∙ ap (set cells p) q ∙ ap (λ (t : List ℕ). set cells p (wordOfKind (Var (getD t (homeAt top v) 0)))) e) e
 
     module _ (c w : List ℕ) (e x : ℕ) (d : List ℕ) (at : d ≡ set c p x) where
-      pub act-str : (f n : ℕ) → n ≡ 1 + arityAt cells f → stateOf c w e ≡ run (stateOf cells work end) (structureAt top f) f n → x ≡ wordOfKind (Str (getD w (structureAt top f) 0)) → (y : ℕ) → stateOf d w e ≡ act top (stateOf cells work end) p y (Str f)
+      pub act-str : (f : ℕ) → stateOf c w e ≡ run (stateOf cells work end) (structureAt top f) f (1 + arityAt cells f) → x ≡ wordOfKind (Str (getD w (structureAt top f) 0)) → (y : ℕ) → stateOf d w e ≡ act top (stateOf cells work end) p y (Str f)
       unfolding act put
-      act-str f n q r k y =
+      act-str f r k y =
           ap (λ (l : List ℕ). stateOf l w e) (at ∙ ap (set c p) k)
-          ∙ ap (λ (t : State). stateOf (set (t .cells) p (wordOfKind (Str (getD (t .tables) f 0)))) (t .tables) (t .end)) (r ∙ ap (run (stateOf cells work end) f f) q)
+          ∙ ap (λ (t : State). stateOf (set (t .cells) p (wordOfKind (Str (getD (t .tables) f 0)))) (t .tables) (t .end)) r
 
       pub act-lis : (l : ℕ) → stateOf c w e ≡ run (stateOf cells work end) (pairAt top l) l 2 → x ≡ wordOfKind (Lis (getD w (pairAt top l) 0)) → (y : ℕ) → stateOf d w e ≡ act top (stateOf cells work end) p y (Lis l)
       unfolding act put

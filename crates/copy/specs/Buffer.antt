@@ -9,7 +9,7 @@ use borrow.Rule.Slice.PartMut.{putMid}
 use Rattle.store.specs.Zeros.{zero-at}
 use Rattle.append.specs.Laid.{post-is}
 use Rattle.chains.specs.Work.{workNeed, cleared}
-use Rattle.chains.specs.Cleared.{cleared-long, cleared-zero, cleared-again}
+use Rattle.chains.specs.Cleared.{cleared-long, cleared-zero, cleared-other, cleared-same}
 use Rattle.chains.specs.Chains.{Hops}
 use Rattle.chains.specs.Hops.{hops-none}
 use Rattle.copy.specs.Rules.{tableWords}
@@ -65,18 +65,21 @@ module _ (top : ℕ) (work part new : List ℕ) (wide : usedWords top ≤ length
   pub part-long : length new ≡ length work
   part-long = ap length is ∙ simp length-append (omega (arith, front))
 
--- a cleared buffer: empty tables, and nothing remembered
+-- a buffer whose first words are cleared: empty tables, and nothing remembered
 module _ (s : List ℕ) (top : ℕ) (work : List ℕ) (l : workNeed top ≤ length work) where
-  pub cleared-tables : tablesOf top (cleared (workNeed top) work) ≡ replicate (tableWords top) 0
+  enough : usedWords top ≤ length work
+  enough = omega arith
+
+  pub cleared-tables : tablesOf top (cleared (usedWords top) work) ≡ replicate (tableWords top) 0
   cleared-tables =
-      let c = cleared-long (workNeed top) work l in
+      let c = cleared-long (usedWords top) work enough in
       let z = length-replicate {A = ℕ} (tableWords top) 0 in
-      let t = length-take-le (tableWords top) (cleared (workNeed top) work) (omega arith) in
-      ext-getD 0 _ _ (omega arith) (λ i h. getD-take (tableWords top) _ i 0 (omega arith) ∙ cleared-zero (workNeed top) work l i (omega arith) ∙ sym (zero-at (tableWords top) i))
+      let t = length-take-le (tableWords top) (cleared (usedWords top) work) (omega arith) in
+      ext-getD 0 _ _ (omega arith) (λ i h. getD-take (tableWords top) _ i 0 (omega arith) ∙ cleared-zero (usedWords top) work enough i (omega arith) ∙ sym (zero-at (tableWords top) i))
 
-  pub cleared-hops : Hops s top (hopsOf top (cleared (workNeed top) work))
-  cleared-hops = hops-none s top _ (λ i h. getD-drop (tableWords top) _ i 0 ∙ cleared-zero (workNeed top) work l (tableWords top + i) (omega arith))
+  pub cleared-hops : Hops s top (hopsOf top (cleared (usedWords top) work))
+  cleared-hops = hops-none s top _ (λ i h. getD-drop (tableWords top) _ i 0 ∙ cleared-zero (usedWords top) work enough (tableWords top + i) (omega arith))
 
-  -- and cleared again after a copy
-  pub cleared-kept : (new : List ℕ) → Kept top (cleared (workNeed top) work) new → cleared (workNeed top) new ≡ cleared (workNeed top) work
-  cleared-kept new k = cleared-again (workNeed top) work l new (k .long ∙ cleared-long (workNeed top) work l) (λ i h. k .rest i (omega arith))
+  -- and after a copy cleared whole
+  pub cleared-kept : (new : List ℕ) → Kept top (cleared (usedWords top) work) new → cleared (workNeed top) new ≡ cleared (workNeed top) work
+  cleared-kept new k = cleared-same (workNeed top) work new (k .long ∙ cleared-long (usedWords top) work enough) (λ i h. k .rest i (omega arith) ∙ cleared-other (usedWords top) work enough i (omega arith))

@@ -1,10 +1,12 @@
 -- What copying comes to, case by case, from what the code has found and left.
-use mathlib.Core.Path.{_≡_, ap}
-use mathlib.Core.Bool.{true, false}
+use mathlib.Core.Path.{_≡_, refl, sym, ap}
+use mathlib.Core.Bool.{Bool, true, false, and-false, and-eq-true-iff}
 use mathlib.Core.List.{List}
-use Prim.Native.Nat.{ℕ, _+_, _<_, _≤_}
+use Prim.Native.Nat.{ℕ, _+_, _-_, _<_, _≤_}
+use native.Mathlib.Omega.{arith}
 use lib.ListN.{length}
-use borrow.Author.Tests.{lt-leb, le-leb}
+use lib.Dec.{leb}
+use borrow.Author.Tests.{lt-leb, le-leb, leb-true, leb-false}
 use Rattle.cell.specs.declared.Refusal.the-variants.{Cells, Root, Work, Room}
 use Rattle.store.specs.Store.{limit, termAt, wellFormed}
 use Rattle.store.specs.WellFormed.{parts}
@@ -32,26 +34,42 @@ module _ (h : Lent) (root : ℕ) where
       no-work e = rw (a, b, lt-leb (workNeed (h .top)) (length (h .work)) e)
 
       module _ (c : workNeed (h .top) ≤ length (h .work)) where
-        abbrev up : ℕ
-        up = h .top + roomOf (h .cells) (h .top) root
+        abbrev fits : Bool
+        fits = roomFor (h .cells) (h .top) (roomOf (h .cells) (h .top) root)
 
-        no-room : roomFor (h .cells) (h .top) (roomOf (h .cells) (h .top) root) ≡ false → (refused Room, h) ≡ copying h root
+        pub no-room : fits ≡ false → (refused Room, h) ≡ copying h root
         unfolding copying
         no-room e = rw (a, b, le-leb (workNeed (h .top)) (length (h .work)) c, e)
 
-        pub over-limit : limit < up → (refused Room, h) ≡ copying h root
-        over-limit l = no-room (rw (lt-leb up limit l))
+        module _ (d : fits ≡ true) where
+          pub given : Given (h .cells) (h .top) root
+          given =
+              let up = h .top + roomOf (h .cells) (h .top) root in
+              let r = and-eq-true-iff (leb up limit) (leb up (length (h .cells))) .0 d in
+              record { wf = parts (h .cells) (h .top) a; term = b; fits = leb-true up (length (h .cells)) (r .1); lim = leb-true up limit (r .0) }
 
-        module _ (high : up ≤ limit) where
-          pub over-length : length (h .cells) < up → (refused Room, h) ≡ copying h root
-          over-length l = no-room (rw (le-leb up limit high, lt-leb up (length (h .cells)) l))
+          pub made : (cells : List ℕ) (top : ℕ) (work : List ℕ) → cells ≡ copied (h .cells) (h .top) root .cells → top ≡ copied (h .cells) (h .top) root .end → work ≡ cleared (workNeed (h .top)) (h .work) → (done (h .top), lent cells top work) ≡ copying h root
+          unfolding copying
+          made cells top work p q r =
+              rw (a, b, le-leb (workNeed (h .top)) (length (h .work)) c, d)
+              (ap (λ (x : Lent). (done (h .top), x)) (λ i. lent (p i) (q i) (r i)))
 
-          module _ (room : up ≤ length (h .cells)) where
-            pub given : Given (h .cells) (h .top) root
-            given = record { wf = parts (h .cells) (h .top) a; term = b; fits = room; lim = high }
+-- ---- the test of the room, by the count of free cells
+module _ (s : List ℕ) (top n : ℕ) where
+  pub within-length : top ≤ length s → length s < limit → leb n (length s - top) ≡ roomFor s top n
+  within-length l h = go (leb n (length s - top)) refl
+    where
+      go : (b : Bool) → leb n (length s - top) ≡ b → b ≡ roomFor s top n
+      go true e = let q = leb-true n (length s - top) e in rw (le-leb (top + n) limit (omega arith), le-leb (top + n) (length s) (omega arith))
+      go false e = let q = leb-false n (length s - top) e in rw (lt-leb (top + n) (length s) (omega arith)) (sym (and-false (leb (top + n) limit)))
 
-            pub made : (cells : List ℕ) (top : ℕ) (work : List ℕ) → cells ≡ copied (h .cells) (h .top) root .cells → top ≡ copied (h .cells) (h .top) root .end → work ≡ cleared (workNeed (h .top)) (h .work) → (done (h .top), lent cells top work) ≡ copying h root
-            unfolding copying
-            made cells top work p q r =
-                rw (a, b, le-leb (workNeed (h .top)) (length (h .work)) c, le-leb up limit high, le-leb up (length (h .cells)) room)
-                (ap (λ (x : Lent). (done (h .top), x)) (λ i. lent (p i) (q i) (r i)))
+  pub within-limit : top ≤ limit → limit ≤ length s → leb n (limit - top) ≡ roomFor s top n
+  within-limit l h = go (leb n (limit - top)) refl
+    where
+      go : (b : Bool) → leb n (limit - top) ≡ b → b ≡ roomFor s top n
+      go true e = let q = leb-true n (limit - top) e in rw (le-leb (top + n) limit (omega arith), le-leb (top + n) (length s) (omega arith))
+      go false e = let q = leb-false n (limit - top) e in rw (lt-leb (top + n) limit (omega arith))
+
+-- where m cells fit, fewer fit too
+pub fewer-fit : (free m n : ℕ) → true ≡ leb m free → n ≤ m → true ≡ leb n free
+fewer-fit free m n e h = let q = leb-true m free (sym e) in sym (le-leb n free (omega arith))

@@ -4,12 +4,11 @@ use mathlib.Core.Bool.{Bool, true, false, not}
 use mathlib.Core.List.{List}
 use Prim.Native.Nat.{ℕ, zero, suc, _+_, _-_, _<_, _≤_}
 use native.Mathlib.Omega.{arith}
-use native.Mathlib.Decide.{ℕ-discrete}
 use lib.ListN.{length, getD, set}
 use lib.Seq.{getD-set-same, getD-set-other}
 use lib.Dec.{eqb}
 use borrow.Author.Tests.{eq-eqb, ne-eqb}
-use Rattle.cycle.specs.Sum.{sumFrom, sum-same}
+use Rattle.cycle.specs.Sum.{sumFrom, sum-same, sum-one, sum-le}
 use Rattle.cycle.specs.Kids.{arityAt}
 use Rattle.cycle.specs.Room.{runRoom, roomFrom, roomBy}
 
@@ -29,26 +28,6 @@ not-noted tables i e = rw (eq-eqb (getD tables i 0) 0 e)
 
 pub noted-is : (tables : List ℕ) (i : ℕ) → noted tables i ≡ true → getD tables i 0 ≡ 0 → ⊥
 noted-is tables i h e = let z : true ≡ false = sym h ∙ not-noted tables i e in let y : _≡_ {A = ℕ} 0 1 = cc in omega arith
-
--- ---- sums
--- one more at one place
-sum-one : (g h : ℕ → ℕ) (n from b d : ℕ) → from ≤ b → b < from + n → h b ≡ g b + d → ((k : ℕ) → from ≤ k → k < from + n → (k ≡ b → ⊥) → h k ≡ g k) → sumFrom from n h ≡ sumFrom from n g + d
-unfolding sumFrom
-sum-one g h zero from b d l u e f = absurd (omega arith)
-sum-one g h (suc n) from b d l u e f =
-    elim (ℕ-discrete from b) [ yes z ↦ here z | no z ↦ (let i = sum-one g h n (suc from) b d (omega arith) (omega arith) e (λ k a c. f k (omega arith) (omega arith)) in let j = f from (omega arith) (omega arith) z in omega arith) ]
-  where
-    here : from ≡ b → h from + sumFrom (suc from) n h ≡ g from + sumFrom (suc from) n g + d
-    here z =
-        let i = sum-same h g n (suc from) (λ k a c. f k (omega arith) (omega arith) (λ y. omega arith)) in
-        let j : h from ≡ g from + d = rw z e in
-        omega arith
-
--- no more at any place
-sum-le : (g h : ℕ → ℕ) (n from : ℕ) → ((k : ℕ) → from ≤ k → k < from + n → g k ≤ h k) → sumFrom from n g ≤ sumFrom from n h
-unfolding sumFrom
-sum-le g h zero from f = omega arith
-sum-le g h (suc n) from f = let a = f from (omega arith) (omega arith) in let b = sum-le g h n (suc from) (λ k x y. f k (omega arith) (omega arith)) in omega arith
 
 -- ---- a note more
 module _ (s : List ℕ) (top : ℕ) (tables : List ℕ) (b v : ℕ) (l : 1 ≤ b) (u : b < top) (nz : v ≡ 0 → ⊥) where

@@ -13,7 +13,7 @@ use Rattle.copy.specs.Rules.{State, tableWords, endWord, act, scan, scan
 use Rattle.copy.specs.Inv.{Given, Inv}
 use Rattle.copy.specs.Whole.{begun}
 use Rattle.chains.specs.Cleared.{cleared-long}
-use Rattle.copy.specs.Buffer.{tablesOf, hopsOf, Kept, kept-more, kept-tables, cleared-tables, cleared-hops, cleared-kept}
+use Rattle.copy.specs.Buffer.{tablesOf, hopsOf, usedWords, Kept, kept-more, kept-tables, cleared-tables, cleared-hops, cleared-kept}
 use Rattle.copy.specs.Asks.{stateOf, Sound, Can, Ready, can-whole, sound, can, again}
 use Rattle.copy.specs.Followed.{Ended, Followed}
 use Rattle.copy.specs.Arms.{act-front, act-behind, scanned-is}
@@ -51,16 +51,13 @@ module _ (cells work : List ℕ) (top end p : ℕ) (r : Ready cells work top end
     pub turn-ready : Ready cells₂ work₂ top end₂ (p + 1)
     turn-ready = again cells work top end p r h cells₂ work₂ end₂ turn-is (subst (Hops cells top) (sym behind) (f .hops)) (l ∙ f .kept .long)
 
--- ---- the whole, of a work buffer that is cleared before and after
-module _ (s : List ℕ) (top root : ℕ) (work : List ℕ) (gv : Given s top root) (long : workNeed top ≤ length work) (n : ℕ) (is : n ≡ workNeed top) (c v : List ℕ) (ce : c ≡ set s top (getD s root 0)) (ve : v ≡ cleared n work) where
-  clear : v ≡ cleared (workNeed top) work
-  clear = ve ∙ ap (λ (m : ℕ). cleared m work) is
-
+-- ---- the whole, of a work buffer whose first words are cleared before, and all that are asked for after
+module _ (s : List ℕ) (top root : ℕ) (work : List ℕ) (gv : Given s top root) (long : workNeed top ≤ length work) (c v : List ℕ) (ce : c ≡ set s top (getD s root 0)) (clear : v ≡ cleared (usedWords top) work) where
   pub ready-first : Ready c v top (top + 1) top
   ready-first =
       subst (λ (x : List ℕ). Ready x v top (top + 1) top) (sym ce)
       (subst (λ (x : List ℕ). Ready (set s top (getD s root 0)) x top (top + 1) top) (sym clear)
-      (let l = cleared-long (workNeed top) work long in
+      (let l = cleared-long (usedWords top) work (omega arith) in
       record {
         s = s;
         root = root;
@@ -70,7 +67,7 @@ module _ (s : List ℕ) (top root : ℕ) (work : List ℕ) (gv : Given s top roo
         wide = omega arith;
       }))
 
-  module _ (c₂ v₂ v₃ : List ℕ) (e : ℕ) (q : stateOf c₂ (tablesOf top v₂) e ≡ scan top limit top (stateOf c (tablesOf top v) (top + 1))) (k : Kept top v v₂) (last : v₃ ≡ cleared n v₂) where
+  module _ (c₂ v₂ v₃ : List ℕ) (e : ℕ) (q : stateOf c₂ (tablesOf top v₂) e ≡ scan top limit top (stateOf c (tablesOf top v) (top + 1))) (k : Kept top v v₂) (n : ℕ) (is : n ≡ workNeed top) (last : v₃ ≡ cleared n v₂) where
     all : stateOf c₂ (tablesOf top v₂) e ≡ copied s top root
     unfolding copied
     all =

@@ -1,10 +1,15 @@
 // The copy of a term into the free part of the store: new cells from `top` on, scanned upwards, with
 // tables in the work buffer of what was copied already.
 ghost use mathlib.Core.Path.{_≡_};
+ghost use mathlib.Core.Bool.{true};
 ghost use Prim.Native.Nat.{ℕ, _+_, _<_, _≤_};
+ghost use lib.Dec.{leb};
 ghost use lib.ListN.{length, getD, set};
 ghost use Rattle.cell.specs.declared.Kind.the-variants.{Var, Str, Lis};
-ghost use Rattle.store.specs.Store.{limit, endOf};
+ghost use Rattle.store.specs.Store.{limit, termAt, WellFormed, endOf};
+ghost use Rattle.append.specs.Calls.{roomFor};
+ghost use Rattle.cycle.specs.Kids.{arityAt};
+ghost use Rattle.cycle.specs.Room.{roomOf};
 ghost use Rattle.chains.specs.Chains.{Chained, Hops};
 ghost use Rattle.chains.specs.Work.{workNeed, cleared};
 ghost use Rattle.copy.specs.Rules.{tableWords, endWord, homed, copyRun, run, act, scanned, scan, copied};
@@ -74,6 +79,18 @@ fn add_run(
     }
 }
 
+// A copy of the structure at the end, unless one is noted; only then is its arity read.
+fn add_structure(cells: &mut [u64], work: &mut [u64], top: usize, end: usize, f: usize) -> usize
+    requires { ⌜ (top ≤ end) × (end ≤ limit) × (tableWords top ≤ length (now work)) × (top ≤ length (now cells)) × Able (now cells) (now work) top end f f (1 + arityAt (now cells) f) ⌝ }
+    ensures { λ r. ⌜ (stateOf (now (cells .exit)) (now (work .exit)) r ≡ run (stateOf (now (cells .entry)) (now (work .entry)) end) f f (1 + arityAt (now (cells .entry)) f)) × (getD (now (work .exit)) f 0 ≤ limit) ⌝ }
+{
+    if work[f] != 0 {
+        return end;
+    }
+    let a = cycle::arity_at(cells, f);
+    add_run(cells, work, top, end, f, f, 1 + a)
+}
+
 // The home of an unbound variable: `p`, unless one is noted at `i`.
 fn reinstantiate_var(work: &mut [u64], i: usize, p: usize) -> usize
     requires { ⌜ (i < length (now work)) × (p ≤ limit) × (getD (now work) i 0 ≤ limit) ⌝ }
@@ -109,8 +126,7 @@ fn copy_structure(
     requires { ⌜ Sound (now cells) (now work) top end p × Can (now cells) (now work) top end (Str f) ⌝ }
     ensures { λ r. ⌜ ((w : ℕ) → stateOf (now (cells .exit)) (now (work .exit)) r ≡ act top (stateOf (now (cells .entry)) (now (work .entry)) end) p w (Str f)) ⌝ }
 {
-    let a = cycle::arity_at(cells, f);
-    let e = add_run(cells, work, top, end, f, f, 1 + a);
+    let e = add_structure(cells, work, top, end, f);
     let g = work[f] as usize;
     let x = cell::kind_word(Kind::Str(g));
     put_at(cells, top, p, x);
@@ -214,18 +230,43 @@ fn copy_term_impl(cells: &mut [u64], work: &mut [u64], top: usize) -> usize
     end
 }
 
-// The copy, past the refusals: the work buffer is cleared before and after.
+// The copy, past the refusals: the words that it uses are cleared before it, and after it all that
+// were asked for.
 fn copy_root(cells: &mut [u64], work: &mut [u64], top: usize, root: usize) -> usize
     requires { ⌜ Given (now cells) top root × (workNeed top ≤ length (now work)) ⌝ }
     ensures { λ r. ⌜ (now (cells .exit) ≡ copied (now (cells .entry)) top root .cells) × (r ≡ copied (now (cells .entry)) top root .end) × (now (work .exit) ≡ cleared (workNeed top) (now (work .entry))) ⌝ }
 {
-    let n = chains::work_need(top);
-    chains::clear(work, n);
+    chains::clear(work, top + top + top + top);
     let w = cells[root];
     put_at(cells, top, top, w);
     let e = copy_term_impl(cells, work, top);
-    chains::clear(work, n);
+    chains::clear(work, chains::work_need(top));
     e
+}
+
+// How many cells more pass neither the limit nor the lent cells.
+fn free_cells(cells: &[u64], top: usize) -> usize
+    requires { ⌜ (top ≤ limit) × (top ≤ length (now cells)) ⌝ }
+    ensures { λ r. ⌜ (r ≤ limit) × ((n : ℕ) → leb n r ≡ roomFor (now (cells .entry)) top n) ⌝ }
+{
+    if cells.len() < LIMIT {
+        cells.len() - top
+    } else {
+        LIMIT - top
+    }
+}
+
+// Whether there is room for the copy. Where there is for the most that any copy can need, what this
+// one needs is not counted.
+fn copy_fits(cells: &[u64], top: usize, root: usize) -> bool
+    requires { ⌜ WellFormed (now cells) top × (termAt (now cells) top root ≡ true) ⌝ }
+    ensures { λ r. ⌜ r ≡ roomFor (now (cells .entry)) top (roomOf (now (cells .entry)) top root) ⌝ }
+{
+    let free = free_cells(cells, top);
+    if cycle::most_within(cells, top, free) {
+        return true;
+    }
+    cycle::room(cells, top, root) <= free
 }
 
 // Copies the term at `root` to the cells from `top` on and answers the old `top`; refusals 1, 3, 4
@@ -243,11 +284,7 @@ pub fn copy_term(cells: &mut [u64], top: &mut usize, work: &mut [u64], root: usi
     if work.len() < chains::work_need(t) {
         return Copied::Refused(Refusal::Work);
     }
-    let n = cycle::room(cells, t, root);
-    if LIMIT - t < n {
-        return Copied::Refused(Refusal::Room);
-    }
-    if cells.len() - t < n {
+    if !copy_fits(cells, t, root) {
         return Copied::Refused(Refusal::Room);
     }
     *top = copy_root(cells, work, t, root);

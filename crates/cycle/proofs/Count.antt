@@ -6,7 +6,6 @@ use native.Mathlib.Omega.{arith}
 use native.Mathlib.Numerals.{add-one}
 use lib.ListN.{length, getD, set}
 use lib.Seq.{getD-set-same, getD-set-other}
-use Rattle.store.specs.Store.{limit}
 
 -- how many are 0
 unfoldable pub whites : List ℕ → ℕ
@@ -36,19 +35,21 @@ whites-lt (suc n ∷ l) zero v h e = absurd (omega arith)
 whites-lt (zero ∷ l) (suc i) v h e = ap suc (whites-lt l i v (omega arith) e)
 whites-lt (suc n ∷ l) (suc i) v h e = whites-lt l i v (omega arith) e
 
--- limit + 1 less the edges gone, over the first n
-unfoldable pub frames : List ℕ → ℕ → ℕ
-frames l zero = 0
-frames l (suc n) = frames l n + (limit + 1 - getD l n 0)
+-- one for each of the first n ranges, and what is left of it
+unfoldable pub frames : List ℕ → List ℕ → ℕ → ℕ
+frames nexts ends zero = 0
+frames nexts ends (suc n) = frames nexts ends n + (getD ends n 0 - getD nexts n 0 + 1)
 
-frames-set : (l : List ℕ) (i v n : ℕ) → n ≤ i → frames (set l i v) n ≡ frames l n
-unfolding frames
-frames-set l i v zero h = refl
-frames-set l i v (suc n) h = rw (frames-set l i v n (omega arith), getD-set-other l i n v 0 (λ z. omega arith))
+module _ (nexts ends : List ℕ) where
+  pub frames-one : (n : ℕ) → frames nexts ends (n + 1) ≡ frames nexts ends n + (getD ends n 0 - getD nexts n 0 + 1)
+  unfolding frames
+  frames-one n = rw (add-one n)
 
-pub frames-one : (l : List ℕ) (n : ℕ) → frames l (n + 1) ≡ frames l n + (limit + 1 - getD l n 0)
-unfolding frames
-frames-one l n = rw (add-one n)
+  module _ (i u v : ℕ) where
+    frames-set : (n : ℕ) → n ≤ i → frames (set nexts i u) (set ends i v) n ≡ frames nexts ends n
+    unfolding frames
+    frames-set zero h = refl
+    frames-set (suc n) h = rw (frames-set n (omega arith), getD-set-other nexts i n u 0 (λ z. omega arith), getD-set-other ends i n v 0 (λ z. omega arith))
 
-pub frames-last : (l : List ℕ) (n v : ℕ) → n < length l → frames (set l n v) (n + 1) ≡ frames l n + (limit + 1 - v)
-frames-last l n v h = rw (frames-one (set l n v) n, frames-set l n v n (omega arith), getD-set-same l n v 0 h)
+pub frames-last : (nexts ends : List ℕ) (n u v : ℕ) → n < length nexts → n < length ends → frames (set nexts n u) (set ends n v) (n + 1) ≡ frames nexts ends n + (v - u + 1)
+frames-last nexts ends n u v h l = rw (frames-one (set nexts n u) (set ends n v) n, frames-set nexts ends n u v n (omega arith), getD-set-same nexts n u 0 h, getD-set-same ends n v 0 l)

@@ -1,3 +1,4 @@
 mod ByKind
 mod Count
 mod Walking
+mod Going

@@ -1,19 +1,19 @@
--- The invariant of a depth-first walk, a lemma for each way a turn can go, and the number that falls with each. The path is st[0..sp], and at[j] counts the links of st[j] that are gone over.
+-- The invariant of a depth-first walk, and a lemma for each way a turn can go. The path is st[0..sp], and at[j] counts the links of st[j] that are gone over.
 -- A link that was gone over leads to a finished cell, or else, once a cycle was met, to one still on the path. So while none was met every path from a finished cell ends, and when the path is empty the finished cells are closed under links.
 use mathlib.Core.Path.{_≡_, refl, sym, ap, subst, _∙_}
 use mathlib.Core.Bool.{Bool, true, false, false≢true}
 use mathlib.Core.List.{List}
 use mathlib.Core.Logic.{_⊎_, inl, inr, ⊎-elim}
-use Prim.Native.Nat.{ℕ, zero, suc, _+_, _*_, _-_, _<_, _≤_}
+use Prim.Native.Nat.{ℕ, zero, suc, _+_, _-_, _<_, _≤_}
 use native.Mathlib.Omega.{arith}
 use native.Mathlib.Decide.{ℕ-discrete}
 use lib.ListN.{length, getD, set, length-set}
 use lib.Seq.{getD-set-same, getD-set-other}
 use Rattle.store.specs.Store.{limit, WellFormed}
 use Rattle.cycle.specs.Graph.{Reaches, here, over, Returns, Accessible, acc, join, one, spread}
-use Rattle.cycle.specs.Links.{links, link, Link, link-used, links-lt}
+use Rattle.cycle.specs.Links.{links, link, Link, link-used}
 use Rattle.cycle.specs.Tables.{Done, Tables, Walked}
-use Rattle.cycle.proofs.Count.{whites, whites-all, whites-le, whites-lt, frames, frames-one, frames-last}
+use Rattle.cycle.proofs.Count.{whites, whites-all, whites-le, whites-lt}
 
 -- the colour x of a cell that a link was gone over to
 pub data Past (met : Bool) (x : ℕ) : Type 0 where
@@ -60,12 +60,8 @@ module _ (s : List ℕ) (top root : ℕ) (col₀ : List ℕ) where
     pub yes-cyclic : met ≡ true → Returns (Link s) root
     pub no-straight : met ≡ false → ((c : ℕ) → Done col₀ c → Accessible (Link s) c) → (c : ℕ) → Done col c → Accessible (Link s) c
 
--- what is left to do
-abbrev pub left : List ℕ → List ℕ → ℕ → ℕ
-left col at sp = (limit + 2) * whites col + frames at sp
-
 -- ---- the first cell on the path
-module _ {s col st at : List ℕ} (t : Tables s col st at) (root : ℕ) (b : root < limit) (white : getD col root 0 ≡ 0) where
+module _ {s col nexts ends : List ℕ} (t : Tables s col nexts ends) (root : ℕ) (b : root < limit) (white : getD col root 0 ≡ 0) where
   grey-root : getD (set col root 1) root 0 ≡ 1
   grey-root = let l = t .col-long in getD-set-same col root 1 0 (omega arith)
 
@@ -76,11 +72,9 @@ module _ {s col st at : List ℕ} (t : Tables s col st at) (root : ℕ) (b : roo
   still : (c : ℕ) → Done col c → Done (set col root 1) c
   still c d = getD-set-other col root c 1 0 (λ e. let z = sym white ∙ rw e at d in omega arith) ∙ d
 
-  pub begun : {top : ℕ} → 1 ≤ root → root < top → Walking s top root (set col root 1) (set col root 1) (set st 0 root) (set at 0 0) 1 false
-  begun l h =
+  pub begun : {top : ℕ} (st at : List ℕ) → length st ≡ limit → length at ≡ limit → 1 ≤ root → root < top → Walking s top root (set col root 1) (set col root 1) (set st 0 root) (set at 0 0) 1 false
+  begun st at ls la l h =
       let lc = t .col-long in
-      let ls = t .st-long in
-      let la = t .at-long in
       let first : getD (set st 0 root) 0 0 ≡ root = getD-set-same st 0 root 0 (omega arith) in
       let other : (c : ℕ) → (c ≡ root → ⊥) → getD (set col root 1) c 0 ≡ getD col c 0 = λ c n. getD-set-other col root c 1 0 n in
       record {
@@ -108,7 +102,7 @@ module _ {s col st at : List ℕ} (t : Tables s col st at) (root : ℕ) (b : roo
       by c (inr e) = (omega arith, λ g. omega arith)
 
   -- what was done since is what was done from the start
-  pub from-start : {col′ st′ at′ : List ℕ} {met : Bool} → Walked s root (set col root 1) col′ st′ at′ met → Walked s root col col′ st′ at′ met
+  pub from-start : {col′ nexts′ ends′ : List ℕ} {met : Bool} → Walked s root (set col root 1) col′ nexts′ ends′ met → Walked s root col col′ nexts′ ends′ met
   from-start w = record {
     tables = w .tables;
     kept = λ c d. w .kept c (still c d);
@@ -128,17 +122,15 @@ pub record Turn (s : List ℕ) (top root : ℕ) (col₀ col st at : List ℕ) (s
   pub walking : Walking s top root col₀ col st at sp met
   pub some : 0 < sp
 
--- the last cell is used, has fewer links than there are used cells, and no more are gone over
-pub record Last (s : List ℕ) (top : ℕ) (st at : List ℕ) (sp : ℕ) : Type 0 where
+-- the last cell is used
+pub record Last (top : ℕ) (st : List ℕ) (sp : ℕ) : Type 0 where
   pub from : 1 ≤ tip st sp
   pub below : tip st sp < top
-  pub gone : tip at sp ≤ links s (tip st sp)
-  pub few : links s (tip st sp) < top
   pub placed : sp ≤ limit
   pub limited : top ≤ limit
 
 module _ {s : List ℕ} {top root : ℕ} {col₀ col st at : List ℕ} {sp : ℕ} {met : Bool} (t : Turn s top root col₀ col st at sp met) where
-  pub last : Last s top st at sp
+  pub last : Last top st sp
   last =
       let w = t .walking in
       let h = t .some in
@@ -147,8 +139,6 @@ module _ {s : List ℕ} {top root : ℕ} {col₀ col st at : List ℕ} {sp : ℕ
       record {
         from = u .0;
         below = u .1;
-        gone = w .small (sp - 1) (omega arith);
-        few = links-lt s top (t .formed) (tip st sp) (u .0) (u .1);
         placed = omega arith;
         limited = t .formed .high;
       }
@@ -226,17 +216,6 @@ module _ {s : List ℕ} {top root : ℕ} {col₀ col st at : List ℕ} {sp : ℕ
   pub turned : getD col c 0 ≡ 1 → Walking s top root col₀ col st (set at (sp - 1) (tip at sp + 1)) sp true
   turned g = gone-over true (λ x. past-met) (back g refl) (λ _. cycle g) (λ e. absurd (false≢true (sym e)))
 
-  pub less-pass : left col (set at (sp - 1) (tip at sp + 1)) sp < left col at sp
-  less-pass =
-      let h = t .turn .some in
-      let e = t .one-of in
-      let l = last (t .turn) in
-      let la = t .turn .walking .at-long in
-      let z : sp ≡ sp - 1 + 1 = omega arith in
-      let new : frames (set at (sp - 1) (tip at sp + 1)) sp ≡ frames at (sp - 1) + (limit + 1 - (tip at sp + 1)) = ap (frames (set at (sp - 1) (tip at sp + 1))) z ∙ frames-last at (sp - 1) (tip at sp + 1) (omega arith) in
-      let old : frames at sp ≡ frames at (sp - 1) + (limit + 1 - tip at sp) = ap (frames at) z ∙ frames-one at (sp - 1) in
-      omega arith
-
   -- to a cell not met before, which becomes the last of the path
   pub landed : (1 ≤ c) × (c < top)
   landed = let l = last (t .turn) in rw (t .leads) (link-used s top (t .turn .formed) (tip st sp) (l .from) (l .below) (tip at sp) (t .one-of))
@@ -294,17 +273,6 @@ module _ {s : List ℕ} {top root : ℕ} {col₀ col st at : List ℕ} {sp : ℕ
         keep : (d : ℕ) → (i : ℕ) × (i < sp) × (getD st i 0 ≡ d) → ((i : ℕ) → i < sp → getD (set st sp c) i 0 ≡ getD st i 0) → (i : ℕ) × (i < sp + 1) × (getD (set st sp c) i 0 ≡ d)
         keep d (i, q, x) old = (i, omega arith, old i q ∙ x)
 
-    pub less-push : left (set col c 1) (set at sp 0) (sp + 1) < left col at sp
-    less-push =
-        let lc = t .turn .walking .col-long in
-        let la = t .turn .walking .at-long in
-        let b = t .turn .formed .high in
-        let u = landed in
-        let rm = room-for in
-        let ww = whites-lt col c 0 (omega arith) white in
-        let fr = frames-last at sp 0 (omega arith) in
-        omega arith
-
 -- ---- the last cell is finished: no link of it is left
 module _ {s : List ℕ} {top root : ℕ} {col₀ col st at : List ℕ} {sp : ℕ} {met : Bool} (t : Turn s top root col₀ col st at sp met) where
   all-past : links s (tip st sp) ≤ tip at sp → (k : ℕ) → k < links s (tip st sp) → Past met (getD col (link s (tip st sp) k) 0)
@@ -349,15 +317,6 @@ module _ {s : List ℕ} {top root : ℕ} {col₀ col st at : List ℕ} {sp : ℕ
       keep : (c : ℕ) → (c ≡ tip st sp → ⊥) → (i : ℕ) × (i < sp) × (getD st i 0 ≡ c) → (i : ℕ) × (i < sp - 1) × (getD st i 0 ≡ c)
       keep c n (i, q, x) = elim (ℕ-discrete i (sp - 1)) [ yes y ↦ absurd (n (sym x ∙ ap (λ (m : ℕ). getD st m 0) y)) | no y ↦ (i, omega arith, x) ]
 
-  pub less-pop : left (set col (tip st sp) 2) at (sp - 1) < left col at sp
-  less-pop =
-      let n = t .some in
-      let l = last t in
-      let wl = whites-le col (tip st sp) 1 in
-      let z : sp ≡ sp - 1 + 1 = omega arith in
-      let old : frames at sp ≡ frames at (sp - 1) + (limit + 1 - tip at sp) = ap (frames at) z ∙ frames-one at (sp - 1) in
-      omega arith
-
 -- ---- nothing is left on the path
 module _ {s : List ℕ} {top root : ℕ} {col₀ col st at : List ℕ} {sp : ℕ} {met : Bool} (w : Walking s top root col₀ col st at sp met) (empty : sp ≡ 0) where
   none-on : (c : ℕ) → getD col c 0 ≡ 1 → ⊥
@@ -370,12 +329,12 @@ module _ {s : List ℕ} {top root : ℕ} {col₀ col st at : List ℕ} {sp : ℕ
   over-links : (i j : ℕ) → Done col i → Link s i j → Done col j
   over-links i j d (k, q, e) = rw e (past (link s i k) (w .closed i k d q))
 
-  pub finished : Walked s root col₀ col st at met
-  finished = record {
+  pub finished : (nexts ends : List ℕ) → length nexts ≡ limit → length ends ≡ limit → Walked s root col₀ col nexts ends met
+  finished nexts ends ln le = record {
     tables = record {
       col-long = w .col-long;
-      st-long = w .st-long;
-      at-long = w .at-long;
+      nexts-long = ln;
+      ends-long = le;
       colours = λ c. elim (ℕ-discrete (getD col c 0) 0) [ yes z ↦ inl z | no z ↦ inr (two c z) ];
       closed = over-links;
     };
@@ -390,7 +349,7 @@ module _ {s : List ℕ} {top root : ℕ} {col₀ col st at : List ℕ} {sp : ℕ
       two c z = let b = w .colours c in let n = none-on c in omega arith
 
 -- ---- a root that was finished before is not walked again
-pub walked-before : {s col st at : List ℕ} (root : ℕ) → Tables s col st at → (getD col root 0 ≡ 0 → ⊥) → Walked s root col col st at false
+pub walked-before : {s col nexts ends : List ℕ} (root : ℕ) → Tables s col nexts ends → (getD col root 0 ≡ 0 → ⊥) → Walked s root col col nexts ends false
 walked-before {s} {col = col} root t n = record {
   tables = t;
   kept = λ c d. d;

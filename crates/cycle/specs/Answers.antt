@@ -21,7 +21,7 @@ use Rattle.cycle.specs.Room.{reaches, strReached, lisReached, roomBy, ro
 use Rattle.cycle.specs.Reached.{found, finds, reach-used}
 use Rattle.cycle.specs.Tables.{Done, Names, Walked, none-done}
 
-module _ {s : List ℕ} {top root : ℕ} {col₀ col st at : List ℕ} {met : Bool} (wf : WellFormed s top) (t : termAt s top root ≡ true) (w : Walked s root col₀ col st at met) where
+module _ {s : List ℕ} {top root : ℕ} {col₀ col nexts ends : List ℕ} {met : Bool} (wf : WellFormed s top) (t : termAt s top root ≡ true) (w : Walked s root col₀ col nexts ends met) where
   -- after tables whose finished cells reach no cycle, a walk answers whether the root does
   pub walked-verdict : ((c : ℕ) → Done col₀ c → Accessible (Link s) c) → met ≡ cyclicAt s top root
   walked-verdict before = let u = term-used s top root t in go met refl (cyclicAt s top root) refl (u .0) (u .1)
@@ -55,7 +55,7 @@ module _ {s : List ℕ} {top root : ℕ} {col₀ col st at : List ℕ} {met : Bo
         go l h false p true q =
             let x = found s top wf root l h g f q in
             let u = reach-used s top wf l h (x .1) in
-            absurd (eqb-false (getD table f 0) 1 p (subst (λ (y : ℕ). getD table y 0 ≡ 1) (x .2) (n .all (x .0) (u .0) (u .1) (w .reached (x .0) (reach-links s (x .1))))))
+            absurd (eqb-false (getD table f 0) 1 p (subst (λ (y : ℕ). getD table y 0 ≡ 1) (x .2) (n .all (x .0) (u .0) (u .1) (w .reached (x .0) (reach-links s (x .1))) (let e = x .2 in omega arith))))
         go l h false p false q = refl
 
     -- so the room counted by their marks is the room of a copy

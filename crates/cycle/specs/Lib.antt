@@ -6,7 +6,9 @@ pub mod Kids
 pub mod Links
 pub mod Verdict
 pub mod Room
+pub mod Most
 pub mod Tables
+pub mod Counted
 -- Laws of them.
 pub mod Ways
 pub mod Cyclic

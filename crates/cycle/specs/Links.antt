@@ -41,6 +41,29 @@ link s i k = linkKind i k (kindAt s i)
 abbrev pub Link : List ℕ → ℕ → ℕ → Type 0
 Link s i j = (k : ℕ) × (k < links s i) × (j ≡ link s i k)
 
+-- the links of the cell at i from the one of number k on go to the cells from next on, up to end
+pub record Span (s : List ℕ) (i k next end : ℕ) : Type 0 where
+  pub some : k ≤ links s i
+  pub from : next ≡ link s i 0 + k
+  pub to : end ≡ link s i 0 + links s i
+
+-- ---- links of a cell go to neighbours
+pub link-next : (s : List ℕ) (i k : ℕ) → k < links s i → link s i k ≡ link s i 0 + k
+unfolding links linksKind link linkKind
+link-next s i k = go (kindAt s i)
+  where
+    flag : (b : Bool) → k < cond b 0 1 → k ≡ 0
+    flag true h = absurd (omega arith)
+    flag false h = omega arith
+
+    go : (q : Kind) → k < linksKind i q → linkKind i k q ≡ linkKind i 0 q + k
+    go (Var v) h = let z = flag (eqb v i) h in omega arith
+    go (Str f) h = omega arith
+    go (Lis m) h = omega arith
+    go (Atom n a) h = omega arith
+    go (Fixnum z) h = absurd (omega arith)
+    go Bad h = absurd (omega arith)
+
 -- ---- links of a well-formed store go to used cells
 module _ (s : List ℕ) (top : ℕ) (wf : WellFormed s top) (i : ℕ) (l : 1 ≤ i) (h : i < top) where
   pub link-used : (k : ℕ) → k < links s i → (1 ≤ link s i k) × (link s i k < top)
@@ -79,6 +102,22 @@ module _ (s : List ℕ) (top : ℕ) (wf : WellFormed s top) (i : ℕ) (l : 1 ≤
       go (Atom n a) e = let r = atom-arity s i n a e in let u = run-used s top wf i l h in omega arith
       go (Fixnum z) e = omega arith
       go Bad e = omega arith
+
+  pub links-end : link s i 0 + links s i ≤ top
+  unfolding links linksKind link linkKind keeps
+  links-end = go (kindAt s i) refl (wf .keep i l h)
+    where
+      flag : (v : ℕ) (b : Bool) → v < top → v + cond b 0 1 ≤ top
+      flag v true u = omega arith
+      flag v false u = omega arith
+
+      go : (q : Kind) → kindAt s i ≡ q → keeps s top i q ≡ true → linkKind i 0 q + linksKind i q ≤ top
+      go (Var v) e t = flag v (eqb v i) (term-used s top v t .1)
+      go (Str f) e t = let u = str-used s top wf i l h f e in omega arith
+      go (Lis m) e t = let u = term-used s top (m + 1) (lis-terms s top wf i l h m e .1) in omega arith
+      go (Atom n a) e t = let r = atom-arity s i n a e in let u = run-used s top wf i l h in omega arith
+      go (Fixnum z) e t = omega arith
+      go Bad e t = omega arith
 
 -- ---- the link of each kind
 module _ (s : List ℕ) (i : ℕ) where

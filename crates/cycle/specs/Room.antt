@@ -1,5 +1,5 @@
 -- The room that a copy needs, as a computation on the words: 1, plus 1 + arity for each structure reached, plus 2 for each pair. specs/Reached.antt proves that what is counted is what the root reaches.
-use mathlib.Core.Path.{_≡_, ap}
+use mathlib.Core.Path.{_≡_, refl, ap}
 use mathlib.Core.Bool.{Bool, true, false, cond, _&&_, _||_}
 use mathlib.Core.List.{List}
 use Prim.Native.Nat.{ℕ, zero, suc, _+_, _-_, _<_, _≤_}
@@ -7,7 +7,7 @@ use native.Mathlib.Omega.{arith}
 use lib.Dec.{eqb}
 use lib.ListN.{getD}
 use Rattle.cycle.specs.Some.{someBelow}
-use Rattle.cycle.specs.Sum.{sumFrom, sum-done, sum-goes, sum-same}
+use Rattle.cycle.specs.Sum.{sumFrom, sum-same, sum-one}
 use Rattle.cycle.specs.Kids.{arityAt, deg, kid, head, pair}
 
 -- i reaches j by at most n edges
@@ -42,37 +42,31 @@ roomOf s top root = roomBy s top (strReached s top root) (lisReached s top root)
 abbrev pub marked : List ℕ → ℕ → Bool
 marked table f = eqb (getD table f 0) 1
 
--- ---- the four cases of a cell's room
-module _ (str lis : Bool) (arity a : ℕ) where
-  pub room-both : str ≡ true → lis ≡ true → a ≡ arity → a + 3 ≡ runRoom str lis arity
-  unfolding runRoom
-  room-both p q e = rw (p, q) (omega arith)
-
-  pub room-str : str ≡ true → lis ≡ false → a ≡ arity → a + 1 ≡ runRoom str lis arity
-  unfolding runRoom
-  room-str p q e = rw (p, q) (omega arith)
-
-module _ (str lis : Bool) (arity : ℕ) where
-  pub room-lis : str ≡ false → lis ≡ true → 2 ≡ runRoom str lis arity
-  unfolding runRoom
-  room-lis p q = rw (p, q)
-
-  pub room-none : str ≡ false → lis ≡ false → 0 ≡ runRoom str lis arity
-  unfolding runRoom
-  room-none p q = rw (p, q)
-
--- ---- one cell after the other
-module _ (s : List ℕ) (top : ℕ) (str lis : ℕ → Bool) where
-  pub room-goes : (sum f r : ℕ) → f < top → r ≡ runRoom (str f) (lis f) (arityAt s f) → sum + roomFrom s f top str lis ≡ sum + r + roomFrom s (f + 1) top str lis
-  unfolding roomFrom
-  room-goes sum f r h e = let g = sum-goes (λ f. runRoom (str f) (lis f) (arityAt s f)) f h in omega arith
-
-  pub room-done : (sum f : ℕ) → top ≤ f → sum + roomFrom s f top str lis ≡ sum
-  unfolding roomFrom
-  room-done sum f h = let g = sum-done (λ f. runRoom (str f) (lis f) (arityAt s f)) f h in omega arith
-
 -- ---- tests that agree count the same
 pub room-same : (s : List ℕ) (top : ℕ) (str lis str′ lis′ : ℕ → Bool) → ((f : ℕ) → 1 ≤ f → str f ≡ str′ f) → ((f : ℕ) → 1 ≤ f → lis f ≡ lis′ f) → roomBy s top str lis ≡ roomBy s top str′ lis′
 unfolding roomBy roomFrom
 room-same s top str lis str′ lis′ p q =
     ap (λ (n : ℕ). 1 + n) (sum-same (λ f. runRoom (str f) (lis f) (arityAt s f)) (λ f. runRoom (str′ f) (lis′ f) (arityAt s f)) (top - 1) 1 (λ f a b. rw (p f a, q f a)))
+
+-- ---- from no run on, one run after the other
+module _ (s : List ℕ) (top : ℕ) (str lis : ℕ → Bool) where
+  pub room-none : ((f : ℕ) → str f ≡ false) → ((f : ℕ) → lis f ≡ false) → roomBy s top str lis ≡ 1
+  unfolding roomBy roomFrom runRoom sumFrom
+  room-none p q = ap (λ (n : ℕ). 1 + n) (none (top - 1) 1)
+    where
+      none : (n from : ℕ) → sumFrom from n (λ f. runRoom (str f) (lis f) (arityAt s f)) ≡ 0
+      none zero from = refl
+      none (suc n) from = let r = none n (suc from) in rw (p from, q from) (omega arith)
+
+  module _ (f : ℕ) (l : 1 ≤ f) (h : f < top) where
+    pub room-str : (str′ : ℕ → Bool) → str f ≡ false → str′ f ≡ true → ((k : ℕ) → (k ≡ f → ⊥) → str′ k ≡ str k) → roomBy s top str′ lis ≡ roomBy s top str lis + (1 + arityAt s f)
+    unfolding roomBy roomFrom runRoom
+    room-str str′ p q r =
+        let one = sum-one (λ f. runRoom (str f) (lis f) (arityAt s f)) (λ f. runRoom (str′ f) (lis f) (arityAt s f)) (top - 1) 1 f (1 + arityAt s f) l (omega arith) (rw (p, q) (omega arith)) (λ k a b n. rw (r k n)) in
+        omega arith
+
+    pub room-lis : (lis′ : ℕ → Bool) → lis f ≡ false → lis′ f ≡ true → ((k : ℕ) → (k ≡ f → ⊥) → lis′ k ≡ lis k) → roomBy s top str lis′ ≡ roomBy s top str lis + 2
+    unfolding roomBy roomFrom runRoom
+    room-lis lis′ p q r =
+        let one = sum-one (λ f. runRoom (str f) (lis f) (arityAt s f)) (λ f. runRoom (str f) (lis′ f) (arityAt s f)) (top - 1) 1 f 2 l (omega arith) (rw (p, q) (omega arith)) (λ k a b n. rw (r k n)) in
+        omega arith

@@ -1,11 +1,13 @@
--- The tables of a walk over the links: a colour for each cell (0 not met, 1 on the path, 2 finished), and the path itself with the link that each of its cells takes next. They may be handed from one walk to the next over the same cells. And tables of the runs that finished cells name.
+-- The tables of a walk over the links: a colour for each cell (0 not met, 1 on the path, 2 finished), and for each cell on the path the links that are left at the one before it. They may be handed from one walk to the next over the same cells. And tables of the runs that finished cells name.
 use mathlib.Core.Path.{_≡_, sym, ap, subst, _∙_}
-use mathlib.Core.Bool.{Bool, true, false}
+use mathlib.Core.Bool.{Bool, true, false, cond}
 use mathlib.Core.List.{List}
 use mathlib.Core.Logic.{_⊎_, inl}
 use Prim.Native.Nat.{ℕ, _+_, _<_, _≤_}
 use native.Mathlib.Omega.{arith}
 use native.Mathlib.Decide.{ℕ-discrete}
+use lib.Dec.{eqb}
+use borrow.Author.Tests.{eq-eqb, ne-eqb}
 use lib.ListN.{length, getD, set, replicate, length-set, length-replicate}
 use lib.Seq.{getD-set-same, getD-set-other}
 use Rattle.store.specs.Store.{limit}
@@ -17,25 +19,29 @@ use Rattle.cycle.specs.Links.{Link}
 abbrev pub Done : List ℕ → ℕ → Type 0
 Done col c = getD col c 0 ≡ 2
 
+-- a table with a mark at y; 0 is no cell to mark
+unfoldable pub withMark : List ℕ → ℕ → List ℕ
+withMark table y = cond (eqb y 0) table (set table y 1)
+
 -- the table has a mark at g of each finished cell x from 1 to n - 1, and no mark but at g of a finished cell
 pub record Names (g : ℕ → ℕ) (n : ℕ) (col table : List ℕ) : Type 0 where
   pub long : length table ≡ limit
-  pub all : (x : ℕ) → 1 ≤ x → x < n → Done col x → getD table (g x) 0 ≡ 1
+  pub all : (x : ℕ) → 1 ≤ x → x < n → Done col x → 1 ≤ g x → getD table (g x) 0 ≡ 1
   pub only : (f : ℕ) → getD table f 0 ≡ 1 → (x : ℕ) × Done col x × (g x ≡ f)
 
 -- before and after a walk
-pub record Tables (s : List ℕ) (col st at : List ℕ) : Type 0 where
+pub record Tables (s : List ℕ) (col nexts ends : List ℕ) : Type 0 where
   pub col-long : length col ≡ limit
-  pub st-long : length st ≡ limit
-  pub at-long : length at ≡ limit
+  pub nexts-long : length nexts ≡ limit
+  pub ends-long : length ends ≡ limit
   -- no cell is on the path
   pub colours : (c : ℕ) → (getD col c 0 ≡ 0) ⊎ Done col c
   -- finished cells are closed under links
   pub closed : (i j : ℕ) → Done col i → Link s i j → Done col j
 
 -- what a walk from the root did, by the colours before and the tables after it, and what it answered
-pub record Walked (s : List ℕ) (root : ℕ) (col₀ col st at : List ℕ) (met : Bool) : Type 0 where
-  pub tables : Tables s col st at
+pub record Walked (s : List ℕ) (root : ℕ) (col₀ col nexts ends : List ℕ) (met : Bool) : Type 0 where
+  pub tables : Tables s col nexts ends
   -- finished are the cells that were so before, and those that the root reaches
   pub kept : (c : ℕ) → Done col₀ c → Done col c
   pub reached : (c : ℕ) → Reaches (Link s) root c → Done col c
@@ -55,14 +61,21 @@ module _ (g : ℕ → ℕ) (col : List ℕ) where
   }
 
   module _ {n : ℕ} {table : List ℕ} (t : Names g n col table) where
-    pub names-more : {y : ℕ} → Done col n → y ≡ g n → y < limit → Names g (n + 1) col (set table y 1)
-    names-more {y} d e h =
-        let l = t .long in
-        record {
-          long = length-set table y 1 ∙ l;
-          all = λ x a b q. elim (ℕ-discrete (g x) y) [ yes z ↦ rw z (getD-set-same table y 1 0 (omega arith)) | no z ↦ getD-set-other table y (g x) 1 0 z ∙ t .all x a (let w : x ≡ n → ⊥ = λ i. z (ap g i ∙ sym e) in omega arith) q ];
-          only = λ f m. elim (ℕ-discrete f y) [ yes z ↦ (n, d, sym (z ∙ e)) | no z ↦ t .only f (sym (getD-set-other table y f 1 0 z) ∙ m) ];
-        }
+    pub names-more : Done col n → g n < limit → Names g (n + 1) col (withMark table (g n))
+    unfolding withMark
+    names-more d h = elim (ℕ-discrete (g n) 0) [ yes z ↦ rw (eq-eqb (g n) 0 z) (past (λ x q. let w : x ≡ n → ⊥ = λ i. (let y = ap g i in omega arith) in w)) | no z ↦ rw (ne-eqb (g n) 0 z) marked-too ]
+      where
+        past : ((x : ℕ) → 1 ≤ g x → x ≡ n → ⊥) → Names g (n + 1) col table
+        past w = record { long = t .long; all = λ x a b q p. let v = w x p in t .all x a (omega arith) q p; only = t .only }
+
+        marked-too : Names g (n + 1) col (set table (g n) 1)
+        marked-too =
+            let l = t .long in
+            record {
+              long = length-set table (g n) 1 ∙ l;
+              all = λ x a b q p. elim (ℕ-discrete (g x) (g n)) [ yes z ↦ rw z (getD-set-same table (g n) 1 0 (omega arith)) | no z ↦ getD-set-other table (g n) (g x) 1 0 z ∙ t .all x a (let w : x ≡ n → ⊥ = λ i. z (ap g i) in omega arith) q p ];
+              only = λ f m. elim (ℕ-discrete f (g n)) [ yes z ↦ (n, d, sym z) | no z ↦ t .only f (sym (getD-set-other table (g n) f 1 0 z) ∙ m) ];
+            }
 
     pub names-skip : (Done col n → ⊥) → Names g (n + 1) col table
     names-skip d = record {
@@ -78,13 +91,13 @@ module _ (g : ℕ → ℕ) (col : List ℕ) where
 pub none-done : (col : List ℕ) → col ≡ replicate limit 0 → (c : ℕ) → Done col c → ⊥
 none-done col e c d = let z = sym (zero-at limit c) ∙ ap (λ (l : List ℕ). getD l c 0) (sym e) ∙ d in omega arith
 
-pub fresh : (s col st at : List ℕ) → col ≡ replicate limit 0 → st ≡ replicate limit 0 → at ≡ replicate limit 0 → Tables s col st at
-fresh s col st at ec es ea =
+pub fresh : (s col nexts ends : List ℕ) → col ≡ replicate limit 0 → nexts ≡ replicate limit 0 → ends ≡ replicate limit 0 → Tables s col nexts ends
+fresh s col nexts ends ec en ee =
     let long : (l : List ℕ) → l ≡ replicate limit 0 → length l ≡ limit = λ l e. ap length e ∙ length-replicate {A = ℕ} limit 0 in
     record {
       col-long = long col ec;
-      st-long = long st es;
-      at-long = long at ea;
+      nexts-long = long nexts en;
+      ends-long = long ends ee;
       colours = λ c. inl (ap (λ (l : List ℕ). getD l c 0) ec ∙ zero-at limit c);
       closed = λ i j d e. absurd (none-done col ec i d);
     }

@@ -3,12 +3,15 @@
 ghost use mathlib.Core.Path.{_≡_};
 ghost use mathlib.Core.Bool.{true, _||_};
 ghost use Prim.Native.Nat.{ℕ, _+_, _-_, _<_, _≤_};
-ghost use lib.ListN.{length, getD, replicate};
+ghost use lib.Dec.{leb};
+ghost use lib.ListN.{length, replicate};
 ghost use Rattle.store.specs.Store.{limit, termAt, WellFormed};
 ghost use Rattle.cycle.specs.Kids.{arityAt, head, pair};
-ghost use Rattle.cycle.specs.Links.{links, link};
+ghost use Rattle.cycle.specs.Links.{Span};
 ghost use Rattle.cycle.specs.Verdict.{cyclicAt, verdictOf};
-ghost use Rattle.cycle.specs.Room.{runRoom, roomBy, roomOf, marked};
+ghost use Rattle.cycle.specs.Room.{roomBy, roomOf, marked};
+ghost use Rattle.cycle.specs.Most.{ownRoom, mostRoom};
+ghost use Rattle.cycle.specs.Counted.{Counted};
 ghost use Rattle.cycle.specs.Tables.{Names, Tables, Walked};
 use cell::Kind;
 use cell::Refusal;
@@ -32,101 +35,95 @@ pub fn arity_at(cells: &[u64], f: usize) -> usize
     }
 }
 
-// The functor cell that a Str names; 0 for any other cell.
-pub fn head_of(cells: &[u64], top: usize, i: usize) -> usize
+// The cells that a cell leads to, always neighbours: from `next` on, up to `end`.
+struct Links {
+    next: usize,
+    end: usize,
+}
+
+// Where the links of a cell go. A Str leads to its functor cell, and this to each argument, so that
+// a wide header is walked once however many Str cells name it.
+fn links_of(cells: &[u64], top: usize, i: usize) -> Links
     requires { ⌜ WellFormed (now cells) top × (1 ≤ i) × (i < top) ⌝ }
-    ensures { λ r. ⌜ (r ≡ head (now (cells .entry)) i) × (r < top) ⌝ }
+    ensures { λ r. ⌜ Span (now (cells .entry)) i 0 (r .next) (r .end) ⌝ }
 {
     match store::kind_at(cells, i) {
-        Kind::Str(f) => f,
-        _ => 0,
-    }
-}
-
-// The first cell of the pair that a Lis names; 0 for any other cell.
-pub fn pair_of(cells: &[u64], top: usize, i: usize) -> usize
-    requires { ⌜ WellFormed (now cells) top × (1 ≤ i) × (i < top) ⌝ }
-    ensures { λ r. ⌜ (r ≡ pair (now (cells .entry)) i) × (r < top) ⌝ }
-{
-    match store::kind_at(cells, i) {
-        Kind::Lis(l) => l,
-        _ => 0,
-    }
-}
-
-// How many links a cell has. A Str leads to its functor cell, and this to each argument, so that a
-// wide header is walked once however many Str cells name it.
-fn degree(cells: &[u64], i: usize) -> usize
-    requires { ⌜ i < length (now cells) ⌝ }
-    ensures { λ r. ⌜ r ≡ links (now (cells .entry)) i ⌝ }
-{
-    match store::kind_at(cells, i) {
-        Kind::Var(v) => { if v == i { 0 } else { 1 } }
-        Kind::Str(_) => 1,
-        Kind::Lis(_) => 2,
-        Kind::Atom { name: _, arity } => arity,
-        _ => 0,
-    }
-}
-
-// Where the link of number `k` goes.
-fn kid_of(cells: &[u64], top: usize, i: usize, k: usize) -> usize
-    requires { ⌜ WellFormed (now cells) top × (1 ≤ i) × (i < top) × (k < links (now cells) i) ⌝ }
-    ensures { λ r. ⌜ (r ≡ link (now (cells .entry)) i k) × (1 ≤ r) × (r < top) ⌝ }
-{
-    match store::kind_at(cells, i) {
-        Kind::Var(v) => v,
-        Kind::Str(f) => f,
-        Kind::Lis(l) => l + k,
-        Kind::Atom { name: _, arity: _ } => i + 1 + k,
-        _ => 0,
+        Kind::Var(v) => {
+            if v == i {
+                Links { next: v, end: v }
+            } else {
+                Links {
+                    next: v,
+                    end: v + 1,
+                }
+            }
+        }
+        Kind::Str(f) => Links {
+            next: f,
+            end: f + 1,
+        },
+        Kind::Lis(l) => Links {
+            next: l,
+            end: l + 2,
+        },
+        Kind::Atom { name: _, arity } => Links {
+            next: i + 1,
+            end: i + 1 + arity,
+        },
+        _ => Links { next: 0, end: 0 },
     }
 }
 
 // Walks all that the root reaches, and answers whether it came to a cell on its own path. It goes
 // on after that, so that the finished cells are exactly those reached, and tables may be used again.
-pub fn walk(
+// The path is kept as the links that are left at the cell before each of its cells, the link to it
+// just gone over; the root has none before it.
+fn walk(
     cells: &[u64],
     top: usize,
     root: usize,
     col: &mut [u8; LIMIT],
-    st: &mut [u16; LIMIT],
-    at: &mut [u16; LIMIT],
+    nexts: &mut [u16; LIMIT],
+    ends: &mut [u16; LIMIT],
 ) -> bool
-    requires { ⌜ WellFormed (now cells) top × (1 ≤ root) × (root < top) × Tables (now cells) (now col) (now st) (now at) ⌝ }
-    ensures { λ r. ⌜ Walked (now (cells .entry)) root (now (col .entry)) (now (col .exit)) (now (st .exit)) (now (at .exit)) r ⌝ }
+    requires { ⌜ WellFormed (now cells) top × (1 ≤ root) × (root < top) × Tables (now cells) (now col) (now nexts) (now ends) ⌝ }
+    ensures { λ r. ⌜ Walked (now (cells .entry)) root (now (col .entry)) (now (col .exit)) (now (nexts .exit)) (now (ends .exit)) r ⌝ }
 {
     if col[root] != 0 {
         return false;
     }
     col[root] = 1;
-    st[0] = root as u16;
-    at[0] = 0;
+    nexts[0] = (root + 1) as u16;
+    ends[0] = (root + 1) as u16;
     let mut sp: usize = 1;
     let mut met = false;
+    let first = links_of(cells, top, root);
+    let mut next = first.next;
+    let mut end = first.end;
     while 0 < sp {
-        let j = sp - 1;
-        let i = st[j] as usize;
-        let k = at[j] as usize;
-        if k < degree(cells, i) {
-            let c = kid_of(cells, top, i, k);
-            let seen = col[c];
+        if next < end {
+            let seen = col[next];
             match seen {
                 0 => {
-                    col[c] = 1;
-                    st[sp] = c as u16;
-                    at[sp] = 0;
+                    col[next] = 1;
+                    let below = links_of(cells, top, next);
+                    nexts[sp] = (next + 1) as u16;
+                    ends[sp] = end as u16;
                     sp += 1;
+                    next = below.next;
+                    end = below.end;
                 }
                 1 => {
                     met = true;
-                    at[j] = (k + 1) as u16;
+                    next += 1;
                 }
-                _ => at[j] = (k + 1) as u16,
+                _ => next += 1,
             }
         } else {
-            col[i] = 2;
-            sp = j;
+            sp -= 1;
+            next = nexts[sp] as usize;
+            end = ends[sp] as usize;
+            col[next - 1] = 2;
         }
     }
     met
@@ -138,9 +135,9 @@ pub fn cyclic(cells: &[u64], top: usize, root: usize) -> bool
     ensures { λ r. ⌜ r ≡ cyclicAt (now (cells .entry)) top root ⌝ }
 {
     let mut col = [0u8; LIMIT];
-    let mut st = [0u16; LIMIT];
-    let mut at = [0u16; LIMIT];
-    walk(cells, top, root, &mut col, &mut st, &mut at)
+    let mut nexts = [0u16; LIMIT];
+    let mut ends = [0u16; LIMIT];
+    walk(cells, top, root, &mut col, &mut nexts, &mut ends)
 }
 
 // Whether one of two roots reaches a cycle; what the first reaches is not walked again.
@@ -149,12 +146,12 @@ pub fn either_cyclic(cells: &[u64], top: usize, a: usize, b: usize) -> bool
     ensures { λ r. ⌜ r ≡ (cyclicAt (now (cells .entry)) top a || cyclicAt (now (cells .entry)) top b) ⌝ }
 {
     let mut col = [0u8; LIMIT];
-    let mut st = [0u16; LIMIT];
-    let mut at = [0u16; LIMIT];
-    if walk(cells, top, a, &mut col, &mut st, &mut at) {
+    let mut nexts = [0u16; LIMIT];
+    let mut ends = [0u16; LIMIT];
+    if walk(cells, top, a, &mut col, &mut nexts, &mut ends) {
         return true;
     }
-    walk(cells, top, b, &mut col, &mut st, &mut at)
+    walk(cells, top, b, &mut col, &mut nexts, &mut ends)
 }
 
 // The cycle verdict: whether the root reaches a cycle; refusals 1 and 3.
@@ -174,60 +171,53 @@ pub fn cycle_verdict(cells: &[u64], top: usize, root: usize) -> Verdict
     }
 }
 
-// A mark on each functor cell that a finished Str names, and on the first cell of each pair that a
-// finished Lis names.
-fn mark_runs(
+// The room of the run that a cell names, if it has no mark yet; it gets one.
+fn count_run(
+    cells: &[u64],
+    top: usize,
+    i: usize,
+    heads: &mut [u8; LIMIT],
+    pairs: &mut [u8; LIMIT],
+) -> usize
+    requires { ⌜ WellFormed (now cells) top × (1 ≤ i) × (i < top) × (length (now heads) ≡ limit) × (length (now pairs) ≡ limit) ⌝ }
+    ensures { λ r. ⌜ Counted (now (cells .entry)) top i (now (heads .entry)) (now (pairs .entry)) (now (heads .exit)) (now (pairs .exit)) r ⌝ }
+{
+    match store::kind_at(cells, i) {
+        Kind::Str(f) => {
+            let old = heads[f];
+            heads[f] = 1;
+            if old == 1 { 0 } else { arity_at(cells, f) + 1 }
+        }
+        Kind::Lis(l) => {
+            let old = pairs[l];
+            pairs[l] = 1;
+            if old == 1 { 0 } else { 2 }
+        }
+        _ => 0,
+    }
+}
+
+// 1, plus the room of each run that a finished cell names, with marks on the functor cells and on
+// the first cells of pairs that are counted.
+fn count_runs(
     cells: &[u64],
     top: usize,
     col: &[u8; LIMIT],
     heads: &mut [u8; LIMIT],
     pairs: &mut [u8; LIMIT],
-)
+) -> usize
     requires { ⌜ WellFormed (now cells) top × (now heads ≡ replicate limit 0) × (now pairs ≡ replicate limit 0) ⌝ }
-    ensures { λ _. ⌜ Names (head (now (cells .entry))) top (now (col .entry)) (now (heads .exit)) × Names (pair (now (cells .entry))) top (now (col .entry)) (now (pairs .exit)) ⌝ }
+    ensures { λ r. ⌜ Names (head (now (cells .entry))) top (now (col .entry)) (now (heads .exit)) × Names (pair (now (cells .entry))) top (now (col .entry)) (now (pairs .exit)) × (r ≡ roomBy (now (cells .entry)) top (marked (now (heads .exit))) (marked (now (pairs .exit)))) ⌝ }
 {
+    let mut sum: usize = 1;
     let mut i: usize = 1;
     while i < top {
         if col[i] == 2 {
-            let h = head_of(cells, top, i);
-            heads[h] = 1;
-            let l = pair_of(cells, top, i);
-            pairs[l] = 1;
+            sum += count_run(cells, top, i, heads, pairs);
             i += 1;
         } else {
             i += 1;
         }
-    }
-}
-
-// The room of the runs that start at `f`.
-fn room_at(cells: &[u64], top: usize, heads: &[u8; LIMIT], pairs: &[u8; LIMIT], f: usize) -> usize
-    requires { ⌜ WellFormed (now cells) top × (1 ≤ f) × (f < top) ⌝ }
-    ensures { λ r. ⌜ (r ≡ runRoom (marked (now (heads .entry)) f) (marked (now (pairs .entry)) f) (arityAt (now (cells .entry)) f)) × (r ≤ top + 2) ⌝ }
-{
-    if heads[f] == 1 {
-        let a = arity_at(cells, f);
-        if pairs[f] == 1 {
-            return a + 3;
-        }
-        return a + 1;
-    }
-    if pairs[f] == 1 {
-        return 2;
-    }
-    0
-}
-
-// 1, plus the room of each run that has a mark.
-fn sum_room(cells: &[u64], top: usize, heads: &[u8; LIMIT], pairs: &[u8; LIMIT]) -> usize
-    requires { ⌜ WellFormed (now cells) top ⌝ }
-    ensures { λ r. ⌜ r ≡ roomBy (now (cells .entry)) top (marked (now (heads .entry))) (marked (now (pairs .entry))) ⌝ }
-{
-    let mut sum: usize = 1;
-    let mut f: usize = 1;
-    while f < top {
-        sum += room_at(cells, top, heads, pairs, f);
-        f += 1;
     }
     sum
 }
@@ -239,11 +229,42 @@ pub fn room(cells: &[u64], top: usize, root: usize) -> usize
     ensures { λ r. ⌜ r ≡ roomOf (now (cells .entry)) top root ⌝ }
 {
     let mut col = [0u8; LIMIT];
-    let mut st = [0u16; LIMIT];
-    let mut at = [0u16; LIMIT];
+    let mut nexts = [0u16; LIMIT];
+    let mut ends = [0u16; LIMIT];
     let mut heads = [0u8; LIMIT];
     let mut pairs = [0u8; LIMIT];
-    walk(cells, top, root, &mut col, &mut st, &mut at);
-    mark_runs(cells, top, &col, &mut heads, &mut pairs);
-    sum_room(cells, top, &heads, &pairs)
+    walk(cells, top, root, &mut col, &mut nexts, &mut ends);
+    count_runs(cells, top, &col, &mut heads, &mut pairs)
+}
+
+// The room that is counted at one cell, for the most that a copy can need: at a functor cell that of
+// its run, if there are arguments; else at each Str that names it; and at each Lis that of its pair.
+fn own_room(cells: &[u64], top: usize, i: usize) -> usize
+    requires { ⌜ WellFormed (now cells) top × (1 ≤ i) × (i < top) ⌝ }
+    ensures { λ r. ⌜ (r ≡ ownRoom (now (cells .entry)) i) × (r ≤ limit) ⌝ }
+{
+    match store::kind_at(cells, i) {
+        Kind::Str(f) => { if arity_at(cells, f) == 0 { 1 } else { 0 } }
+        Kind::Lis(_) => 2,
+        Kind::Atom { name: _, arity } => { if arity == 0 { 0 } else { arity + 1 } }
+        _ => 0,
+    }
+}
+
+// Whether the most room that a copy of any term in the store can need is at most `free`. It takes no
+// walk, and stops where the sum is too much.
+pub fn most_within(cells: &[u64], top: usize, free: usize) -> bool
+    requires { ⌜ WellFormed (now cells) top × (free ≤ limit) ⌝ }
+    ensures { λ r. ⌜ r ≡ leb (mostRoom (now (cells .entry)) top) free ⌝ }
+{
+    let mut sum: usize = 1;
+    let mut i: usize = 1;
+    while i < top {
+        if free < sum {
+            return false;
+        }
+        sum += own_room(cells, top, i);
+        i += 1;
+    }
+    sum <= free
 }

@@ -419,7 +419,8 @@ fn start(work: &mut [u64], top: usize, a: usize, b: usize)
     push(work, top, 0, a, b);
 }
 
-// Unifies the cells `a` and `b` plainly, past the refusals. After a clash the new trail entries still stand, to be undone.
+// Unifies the cells `a` and `b` plainly, past the refusals. After a clash the new trail entries
+// still stand, to be undone.
 pub fn unify_internal(
     cells: &mut [u64],
     top: usize,

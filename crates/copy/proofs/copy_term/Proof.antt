@@ -1,17 +1,18 @@
 -- `copy::copy_term` meets its contract: the refusals in the definition's order, and then the copy. Assumes nothing.
 use mathlib.Core.Path.{_≡_, sym, _∙_}
-use Prim.Native.Nat.{ℕ, _+_, _≤_}
+use Prim.Native.Nat.{ℕ, _≤_}
 use mathlib.Core.Bool.{true}
 use lib.ListN.{length}
 use denote.Ref.{now}
 use borrow.Author.Tests.{not-true, not-false}
-use Rattle.store.specs.Store.{limit, termAt, wellFormed}
+use Rattle.store.specs.Store.{termAt, wellFormed}
 use Rattle.store.specs.WellFormed.{parts}
+use Rattle.append.specs.Calls.{roomFor}
 use Rattle.cycle.specs.Room.{roomOf}
 use Rattle.chains.specs.Work.{workNeed}
 use Rattle.copy.specs.Calls.{Lent, lent}
 use Rattle.copy.specs.Inv.{Given}
-use Rattle.copy.specs.Copying.{no-cells, no-root, no-work, over-limit, over-length, given, made}
+use Rattle.copy.specs.Copying.{no-cells, no-root, no-work, no-room, given, made}
 use borrow.Author.Needs.{needs}
 use native.Mathlib.Omega.{arith}
 use Rattle.copy.proofs.copy_term.Statement.{statement}
@@ -42,16 +43,14 @@ root-term c = sym (c .before .term-at .ensures) ∙ not-false _ (c .if2 .left)
 long : (c : tie.Else3) → workNeed (at (past2 c) .top) ≤ length (at (past2 c) .work)
 long c = let e = c .before .work-need .ensures in omega arith
 
-high : (c : tie.Else4) → let d = past2 (past3 c) in at d .top + roomOf (at d .cells) (at d .top) (root d) ≤ limit
-high c = let h = parts _ _ (formed (past2 (past3 c))) .high in let e = c .before .room .ensures in omega arith
+room : (c : tie.Else4) → let d = past2 (past3 c) in roomFor (at d .cells) (at d .top) (roomOf (at d .cells) (at d .top) (root d)) ≡ true
+room c = sym (c .before .copy-fits .ensures) ∙ not-false _ (c .if4 .left)
 
-all-given : (c : tie.Else5) → let d = past2 (past3 (c .before)) in Given (at d .cells) (at d .top) (root d)
+all-given : (c : tie.Else4) → let d = past2 (past3 c) in Given (at d .cells) (at d .top) (root d)
 all-given c =
-    let t = past3 (c .before) in
+    let t = past3 c in
     let d = past2 t in
-    let h = parts _ _ (formed d) .room in
-    let e = c .before .before .room .ensures in
-    given (at d) (root d) (formed d) (root-term (t .before .before)) (long t) (high (c .before)) (omega arith)
+    given (at d) (root d) (formed d) (root-term (t .before .before)) (long t) (room c)
 
 check-cells-requires : tie.Need-check-cells-requires
 check-cells-requires c κs = search needs
@@ -80,46 +79,32 @@ same-length-3 c = search needs
 returns-3 : tie.Need-returns-3
 returns-3 c = let e = c .before .work-need .ensures in no-work _ _ (formed (past1 (c .before .before))) (root-term (c .before .before)) (omega arith)
 
-room-requires : tie.Need-room-requires
-room-requires c κs = (parts _ _ (formed (past2 (c .before))), root-term (c .before .before .before))
-
-sub-if4 : tie.Need-sub-if4
-sub-if4 c = parts _ _ (formed (past2 (c .before .before))) .high
+copy-fits-requires : tie.Need-copy-fits-requires
+copy-fits-requires c κs = (parts _ _ (formed (past2 (c .before))), root-term (c .before .before .before))
 
 same-length-4 : tie.Need-same-length-4
 same-length-4 c = search needs
 
 returns-4 : tie.Need-returns-4
-returns-4 c = let t = c .before .before .before in let e = c .before .room .ensures in let h = parts _ _ (formed (past2 t)) .high in over-limit _ _ (formed (past2 t)) (root-term (t .before .before)) (long t) (omega arith)
+returns-4 c =
+    let t = c .before .before .before in
+    no-room _ _ (formed (past2 t)) (root-term (t .before .before)) (long t) (sym (c .before .copy-fits .ensures) ∙ not-true _ (c .if4 .taken))
 
-sub-if5 : tie.Need-sub-if5
-sub-if5 c = parts _ _ (formed (past2 (past3 c))) .room
+copy-root-requires : tie.Need-copy-root-requires
+copy-root-requires c κs = let d = c .before .before in (all-given d, long (past3 d))
 
 same-length-5 : tie.Need-same-length-5
 same-length-5 c = search needs
 
-returns-5 : tie.Need-returns-5
-returns-5 c =
-    let t = past3 (c .before) in
-    let h = parts _ _ (formed (past2 t)) .room in
-    let e = c .before .before .room .ensures in
-    over-length _ _ (formed (past2 t)) (root-term (t .before .before)) (long t) (high (c .before)) (omega arith)
-
-copy-root-requires : tie.Need-copy-root-requires
-copy-root-requires c κs = (all-given (c .before .before), long (past3 (c .before .before .before)))
-
 same-length-6 : tie.Need-same-length-6
 same-length-6 c = search needs
 
-same-length-7 : tie.Need-same-length-7
-same-length-7 c = search needs
-
-returns-6 : tie.Need-returns-6
-returns-6 c =
+returns-5 : tie.Need-returns-5
+returns-5 c =
     let e = c .before .before .before .before .copy-root .ensures in
     let d = c .before .before .before .before .before .before .before in
-    let t = past3 (d .before) in
-    made _ _ (formed (past2 t)) (root-term (t .before .before)) (long t) (high (d .before)) (all-given d .fits) _ _ _ (e .0) (e .1) (e .2)
+    let t = past3 d in
+    made _ _ (formed (past2 t)) (root-term (t .before .before)) (long t) (room d) _ _ _ (e .0) (e .1) (e .2)
 
 pub copy-term-spec : {M : Type 1} → statement M
 copy-term-spec =
@@ -134,14 +119,10 @@ copy-term-spec =
     work-need-requires
     same-length-3
     returns-3
-    room-requires
-    sub-if4
+    copy-fits-requires
     same-length-4
     returns-4
-    sub-if5
-    same-length-5
-    returns-5
     copy-root-requires
+    same-length-5
     same-length-6
-    same-length-7
-    returns-6)
+    returns-5)

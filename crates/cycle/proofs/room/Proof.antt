@@ -1,4 +1,4 @@
--- `cycle::room` meets its contract: the room counted by the marks of one walk on tables of zeros.
+-- `cycle::room` meets its contract: the room counted of what one walk on tables of zeros finished.
 use mathlib.Core.Path.{refl}
 use Rattle.store.specs.Steps.{term-used}
 use Rattle.cycle.specs.Tables.{fresh}
@@ -12,19 +12,15 @@ walk-requires c κs =
     let u = term-used _ _ _ (p .1) in
     (p .0, u .0, u .1, fresh _ _ _ _ refl refl refl)
 
-mark-runs-requires : tie.Need-mark-runs-requires
-mark-runs-requires c κs = let d = c .before .before .before in (d .before .before .before .before .before .pre .0, refl, refl)
-
-sum-room-requires : tie.Need-sum-room-requires
-sum-room-requires c κs = let d = c .before .before .before .before .before .before in d .before .before .before .before .before .pre .0
+count-runs-requires : tie.Need-count-runs-requires
+count-runs-requires c κs = let d = c .before .before .before in (d .before .before .before .before .before .pre .0, refl, refl)
 
 returns : tie.Need-returns
 returns c =
-    let m = c .before .before .before in
-    let w = m .before .before .before .before in
+    let w = c .before .before .before .before in
     let p = w .before .before .before .before .before .pre in
-    let n = m .mark-runs .ensures in
-    walked-room (p .0) (p .1) (w .walk .ensures) refl _ _ _ (n .0) (n .1) (c .sum-room .ensures)
+    let n = c .count-runs .ensures in
+    walked-room (p .0) (p .1) (w .walk .ensures) refl _ _ _ (n .0) (n .1) (n .2)
 
 pub room-spec : {M : Type 1} → statement M
-room-spec = tie.close (tie.spec walk-requires mark-runs-requires sum-room-requires returns)
+room-spec = tie.close (tie.spec walk-requires count-runs-requires returns)
