@@ -1,9 +1,8 @@
 // Appending words at the end of a store's used cells.
 ghost use mathlib.Core.Path.{_≡_};
-ghost use mathlib.Core.Bool.{true, _&&_};
 ghost use Prim.Native.Nat.{_+_, _≤_};
 ghost use lib.ListN.{length};
-ghost use Rattle.store.specs.Store.{limit, cellsKeep, cellsEnd};
+ghost use Rattle.store.specs.Store.{limit};
 ghost use Rattle.trail.specs.State.{stateOf};
 ghost use Rattle.append.specs.Laid.{front, laid};
 ghost use Rattle.append.specs.Calls.{saidAt, appending};

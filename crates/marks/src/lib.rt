@@ -2,13 +2,12 @@
 ghost use mathlib.Core.Path.{_≡_};
 ghost use mathlib.Core.Bool.{true};
 ghost use Prim.Native.Nat.{ℕ, _+_, _-_, _*_, _<_, _≤_};
-ghost use lib.ListN.{length, getD, replicate};
+ghost use lib.ListN.{length, replicate};
 ghost use Rattle.store.specs.Store.{limit};
 ghost use Rattle.trail.specs.State.{stateOf, said};
 ghost use Rattle.trail.specs.Table.{words};
 ghost use Rattle.trail.specs.Seen.{Seen};
 ghost use Rattle.trail.specs.Rules.{markWidth, markTop, markTrail};
-ghost use Rattle.store.specs.Zeros.{zeroed};
 ghost use Rattle.marks.specs.Unbind.{unbind, Names};
 ghost use Rattle.marks.specs.Calls.{saidMark, marking, cutting, lowered, rollCheck, rolling};
 ghost use Rattle.marks.specs.Left.{keepsLeft, cellsLeft, trailLeft, LeftGood, Lowers};

@@ -1,7 +1,7 @@
 -- Headers and atoms by their words alone: an Atom's word is told by the bits above its arity, a header's by its place among the words.
 use mathlib.Core.Path.{_≡_, refl, sym, ap, _∙_}
-use mathlib.Core.Bool.{Bool, true, false}
-use Prim.Native.Nat.{ℕ, _+_, _-_, _*_, _/_, _^_, _<_, _≤_}
+use mathlib.Core.Bool.{false}
+use Prim.Native.Nat.{ℕ, _+_, _-_, _/_, _^_, _<_, _≤_}
 use native.Mathlib.Omega.{arith}
 use native.Mathlib.Decide.{ℕ-discrete, decLe}
 use lib.Dec.{leb, eqb}
@@ -9,7 +9,7 @@ use borrow.Author.Tests.{lt-ltb, le-ltb, le-leb, lt-leb, eq-eqb, ne-eqb}
 use Rattle.cell.specs.declared.Kind.{Kind}
 use Rattle.cell.specs.Word.{arityOf}
 use Rattle.cell.specs.Kinds.{kindOf}
-use Rattle.cell.specs.Rows.{Row, kind-cases, atom-bits, row-bits}
+use Rattle.cell.specs.Rows.{kind-cases, atom-bits, row-bits}
 use Rattle.store.specs.Store.{isHeader, isAtom}
 
 module _ (w : ℕ) where

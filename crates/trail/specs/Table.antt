@@ -1,13 +1,13 @@
 -- A table of cells with a bit for each, in words of 64: whether a cell is noted, and noting one.
 use mathlib.Core.Path.{_≡_, refl, ap, _∙_}
 use mathlib.Core.List.{List}
-use Prim.Native.Nat.{ℕ, zero, suc, _+_, _-_, _*_, _/_, _%_, _^_, _<_, _≤_}
+use Prim.Native.Nat.{ℕ, zero, suc, _+_, _-_, _/_, _%_, _^_, _<_}
 use native.Mathlib.Nat.{one-mul, div-eq-of-lt}
 use native.Mathlib.Omega.{arith}
 use native.Mathlib.Decide.{ℕ-discrete, decLt}
 use lib.ListN.{length, getD, set, replicate, length-set}
 use lib.Seq.{getD-set-same, getD-set-other}
-use lib.Bits.{bitOr, or-mod, or-shr, or-zero-r, or-self, shifted-even}
+use lib.Bits.{bitOr, or-mod, or-shr, or-zero-r, shifted-even}
 use lib.Pow.{pow-add, pow-lt, pow-pos, shl-shr}
 use Rattle.store.specs.Zeros.{zero-at}
 

@@ -1,7 +1,7 @@
 // The trail and the marks beside a store's cells: their rules, and the store check, which every call
 // that is lent them makes first.
 ghost use mathlib.Core.Path.{_≡_};
-ghost use Prim.Native.Nat.{ℕ, _<_, _≤_};
+ghost use Prim.Native.Nat.{_<_, _≤_};
 ghost use lib.Dec.{eqb};
 ghost use lib.ListN.{length};
 ghost use Rattle.store.specs.Store.{limit};

@@ -24,7 +24,9 @@ enum-told : tie.Need-enum-told Inv-loop μ-loop
 enum-told c = search needs
 
 returns : tie.Need-returns Inv-loop μ-loop
-returns c = and-fails _ _ (survey-breaks _ _ _ (c .before .before .before .before .loop .inv .1) (omega arith) (subst (StandsAt _ _ _) (c .enum-told .given .1) (c .before .before .stands-at .ensures)))
+returns c =
+    let d = c .before .before in
+    and-fails _ _ (survey-breaks _ _ _ (d .before .before .loop .inv .1) (omega arith) (subst (StandsAt _ _ _) (c .enum-told .given .1) (d .stands-at .ensures)))
 
 enum-told-2 : tie.Need-enum-told-2 Inv-loop μ-loop
 enum-told-2 c = search needs
@@ -36,7 +38,9 @@ loop-less : tie.Need-loop-less Inv-loop μ-loop
 loop-less c = search needs
 
 loop-again : tie.Need-loop-again Inv-loop μ-loop
-loop-again c = (omega arith, survey-stays _ _ _ (c .before .before .before .before .loop .inv .1) (omega arith) (subst (StandsAt _ _ _) (c .enum-told2 .given .1) (c .before .before .stands-at .ensures)))
+loop-again c =
+    let d = c .before .before in
+    (omega arith, survey-stays _ _ _ (d .before .before .loop .inv .1) (omega arith) (subst (StandsAt _ _ _) (c .enum-told2 .given .1) (d .stands-at .ensures)))
 
 enum-told-3 : tie.Need-enum-told-3 Inv-loop μ-loop
 enum-told-3 c = search needs
@@ -48,19 +52,27 @@ loop-less-2 : tie.Need-loop-less-2 Inv-loop μ-loop
 loop-less-2 c = search needs
 
 loop-again-2 : tie.Need-loop-again-2 Inv-loop μ-loop
-loop-again-2 c = (omega arith, survey-leads _ _ _ (c .before .before .before .before .loop .inv .1) (omega arith) (subst (StandsAt _ _ _) (c .enum-told3 .given .1) (c .before .before .stands-at .ensures)))
+loop-again-2 c =
+    let d = c .before .before in
+    (omega arith, survey-leads _ _ _ (d .before .before .loop .inv .1) (omega arith) (subst (StandsAt _ _ _) (c .enum-told3 .given .1) (d .stands-at .ensures)))
 
 enum-known-arity : tie.Need-enum-known-arity Inv-loop μ-loop
 enum-known-arity c = search needs
 
 returns-2 : tie.Need-returns-2 Inv-loop μ-loop
-returns-2 c = and-fails _ _ (survey-inside _ _ _ (c .before .before .before .before .before .before .loop .inv .1) (omega arith) _ (subst (StandsAt _ _ _) (c .before .before .arity .given .1) (c .before .before .before .before .stands-at .ensures)) (c .if1 .taken))
+returns-2 c =
+    let h = c .before .before in
+    let d = h .before .before in
+    and-fails _ _ (survey-inside _ _ _ (d .before .before .loop .inv .1) (omega arith) _ (subst (StandsAt _ _ _) (h .arity .given .1) (d .stands-at .ensures)) (c .if1 .taken))
 
 sub-if2 : tie.Need-sub-if2 Inv-loop μ-loop
 sub-if2 c = search needs
 
 returns-3 : tie.Need-returns-3 Inv-loop μ-loop
-returns-3 c = and-fails _ _ (survey-short _ _ _ (c .before .before .before .before .before .before .before .loop .inv .1) (omega arith) _ (subst (StandsAt _ _ _) (c .before .before .before .arity .given .1) (c .before .before .before .before .before .stands-at .ensures)) (omega arith) (omega arith))
+returns-3 c =
+    let h = c .before .before .before in
+    let d = h .before .before in
+    and-fails _ _ (survey-short _ _ _ (d .before .before .loop .inv .1) (omega arith) _ (subst (StandsAt _ _ _) (h .arity .given .1) (d .stands-at .ensures)) (omega arith) (omega arith))
 
 add-last : tie.Need-add-last Inv-loop μ-loop
 add-last c = search needs
@@ -72,16 +84,23 @@ loop-less-3 : tie.Need-loop-less-3 Inv-loop μ-loop
 loop-less-3 c = search needs
 
 loop-again-3 : tie.Need-loop-again-3 Inv-loop μ-loop
-loop-again-3 c = (omega arith, survey-heads _ _ _ (c .before .before .before .before .before .before .before .loop .inv .1) (omega arith) _ (subst (StandsAt _ _ _) (c .before .before .before .arity .given .1) (c .before .before .before .before .before .stands-at .ensures)) (omega arith) (omega arith))
+loop-again-3 c =
+    let h = c .before .before .before in
+    let d = h .before .before in
+    (omega arith, survey-heads _ _ _ (d .before .before .loop .inv .1) (omega arith) _ (subst (StandsAt _ _ _) (h .arity .given .1) (d .stands-at .ensures)) (omega arith) (omega arith))
 
 cells-end-requires : tie.Need-cells-end-requires Inv-loop μ-loop
-cells-end-requires c κs = (omega arith, omega arith, c .before .before .before .before .pre .3 (survey-keeps _ _ _ (c .before .before .loop .inv .1) (omega arith) (omega arith)))
+cells-end-requires c κs =
+    let l = c .before .before in
+    (omega arith, omega arith, l .before .before .pre .3 (survey-keeps _ _ _ (l .loop .inv .1) (omega arith) (omega arith)))
 
 returns-4 : tie.Need-returns-4 Inv-loop μ-loop
 returns-4 c = c .cells-end .ensures ∙ and-goes _ _ (survey-keeps _ _ _ (c .before .before .before .loop .inv .1) (omega arith) (omega arith))
 
 returns-5 : tie.Need-returns-5 Inv-loop μ-loop
-returns-5 c = let m = c .before .before .loop .inv .1 in sym (survey-ends _ _ _ m (omega arith) (c .if3 .left)) ∙ and-goes _ _ (survey-keeps _ _ _ m (omega arith) (omega arith))
+returns-5 c =
+    let m = c .before .before .loop .inv .1 in
+    sym (survey-ends _ _ _ m (omega arith) (c .if3 .left)) ∙ and-goes _ _ (survey-keeps _ _ _ m (omega arith) (omega arith))
 
 pub cells-good-spec : {M : Type 1} → statement M
 cells-good-spec =

@@ -18,7 +18,9 @@ term-at-requires : tie.Need-term-at-requires
 term-at-requires c κs = search needs
 
 returns : tie.Need-returns
-returns c = var-breaks _ _ _ (c .before .before .before .before .before .kind-at .ensures) _ _ (c .before .before .before .v .given .1) _ (c .before .term-at .ensures) (not-true _ (c .if1 .taken))
+returns c =
+    let d = c .before .before .before in
+    var-breaks _ _ _ (d .before .before .kind-at .ensures) _ _ (d .v .given .1) _ (c .before .term-at .ensures) (not-true _ (c .if1 .taken))
 
 enum-known-f : tie.Need-enum-known-f
 enum-known-f c = search needs
@@ -54,26 +56,43 @@ enum-told-2 : tie.Need-enum-told-2
 enum-told-2 c = search needs
 
 returns-2 : tie.Need-returns-2
-returns-2 c = var-stays _ _ _ (c .before .before .before .before .before .before .kind-at .ensures) _ _ (c .before .before .before .before .v .given .1) _ (c .before .before .term-at .ensures) (not-false _ (c .before .if1 .left)) (c .if2 .taken)
+returns-2 c =
+    let t = c .before .before in
+    let d = t .before .before in
+    var-stays _ _ _ (d .before .before .kind-at .ensures) _ _ (d .v .given .1) _ (t .term-at .ensures) (not-false _ (c .before .if1 .left)) (c .if2 .taken)
 
 returns-3 : tie.Need-returns-3
-returns-3 c = var-leads _ _ _ (c .before .before .before .before .before .before .kind-at .ensures) _ _ (c .before .before .before .before .v .given .1) _ (c .before .before .term-at .ensures) (not-false _ (c .before .if1 .left))
+returns-3 c =
+    let t = c .before .before in
+    let d = t .before .before in
+    var-leads _ _ _ (d .before .before .kind-at .ensures) _ _ (d .v .given .1) _ (t .term-at .ensures) (not-false _ (c .before .if1 .left))
 
 returns-4 : tie.Need-returns-4
-returns-4 c = kept-str _ _ _ (c .before .before .before .before .before .kind-at .ensures) _ _ (c .before .before .before .f .given .1) _ (c .before .atom-at .ensures) _ (c .kept .ensures)
+returns-4 c =
+    let d = c .before .before .before in
+    kept-str _ _ _ (d .before .before .kind-at .ensures) _ _ (d .f .given .1) _ (c .before .atom-at .ensures) _ (c .kept .ensures)
 
 returns-5 : tie.Need-returns-5
-returns-5 c = kept-lis _ _ _ (c .before .before .before .before .before .before .before .kind-at .ensures) _ _ (c .before .before .before .before .before .l .given .1) _ (and-both _ _ _ _ (c .before .before .before .term-at2 .ensures) (c .before .before .if3 .taken) (c .before .term-at3 .ensures)) _ (c .kept2 .ensures)
+returns-5 c =
+    let t = c .before .before .before in
+    let d = t .before .before in
+    kept-lis _ _ _ (d .before .before .kind-at .ensures) _ _ (d .l .given .1) _ (and-both _ _ _ _ (t .term-at2 .ensures) (c .before .before .if3 .taken) (c .before .term-at3 .ensures)) _ (c .kept2 .ensures)
 
 returns-6 : tie.Need-returns-6
 unfolding keptOf
-returns-6 c = kept-lis _ _ _ (c .before .before .before .before .before .kind-at .ensures) _ _ (c .before .before .before .l .given .1) _ (and-none _ _ _ (c .before .term-at2 .ensures) (c .if3 .left)) _ refl
+returns-6 c =
+    let d = c .before .before .before in
+    kept-lis _ _ _ (d .before .before .kind-at .ensures) _ _ (d .l .given .1) _ (and-none _ _ _ (c .before .term-at2 .ensures) (c .if3 .left)) _ refl
 
 returns-7 : tie.Need-returns-7
-returns-7 c = atom-stays _ _ _ (c .before .before .before .before .kind-at .ensures) _ _ _ (c .before .before .arity .given .1) (omega arith) (c .if4 .taken)
+returns-7 c =
+    let d = c .before .before in
+    atom-stays _ _ _ (d .before .before .kind-at .ensures) _ _ _ (d .arity .given .1) (omega arith) (c .if4 .taken)
 
 returns-8 : tie.Need-returns-8
-returns-8 c = atom-heads _ _ _ (c .before .before .before .before .kind-at .ensures) _ _ _ (c .before .before .arity .given .1) (c .if4 .left)
+returns-8 c =
+    let d = c .before .before in
+    atom-heads _ _ _ (d .before .before .kind-at .ensures) _ _ _ (d .arity .given .1) (c .if4 .left)
 
 returns-9 : tie.Need-returns-9
 returns-9 c = fixnum-stays _ _ _ (c .before .before .kind-at .ensures) _ _ (c .enum-told .given .1)
