@@ -72,38 +72,27 @@ impl Lender {
                 Call::Cut(k) => c::trisculap_cut(
                     cells, cells_len, *top, trail, trail_len, *count, marks, marks_len, marked, k,
                 ),
-                Call::Unify(a, b) => c::trisculap_unify(
-                    cells,
-                    cells_len,
-                    *top,
-                    trail,
-                    trail_len,
-                    count,
-                    marks,
-                    marks_len,
-                    *marked,
-                    work,
-                    work_len,
-                    a,
-                    b,
-                    &mut answer,
-                ),
-                Call::UnifyChecked(a, b) => c::trisculap_unify_checked(
-                    cells,
-                    cells_len,
-                    *top,
-                    trail,
-                    trail_len,
-                    count,
-                    marks,
-                    marks_len,
-                    *marked,
-                    work,
-                    work_len,
-                    a,
-                    b,
-                    &mut answer,
-                ),
+                Call::Unify(a, b) | Call::UnifyChecked(a, b) => {
+                    let checked = matches!(call, Call::UnifyChecked(..));
+                    let unify: c::Unify =
+                        if checked { c::trisculap_unify_checked } else { c::trisculap_unify };
+                    unify(
+                        cells,
+                        cells_len,
+                        *top,
+                        trail,
+                        trail_len,
+                        count,
+                        marks,
+                        marks_len,
+                        *marked,
+                        work,
+                        work_len,
+                        a,
+                        b,
+                        &mut answer,
+                    )
+                }
                 Call::Copy(root) => {
                     c::trisculap_copy(cells, cells_len, top, work, work_len, root, &mut place)
                 }

@@ -10,15 +10,23 @@ mod lent;
 #[path = "../../bench/reference/tests/property/random.rs"]
 mod random;
 
+use std::ffi::c_uint;
+
 use guard::Side;
 use lent::Lender;
 use random::Random;
 use trisculap_reference::calls::Store;
 
+extern "C" {
+    fn alarm(seconds: c_uint) -> c_uint;
+}
+
 fn main() {
     let mut arguments = std::env::args().skip(1).map(|word| word.parse().expect("a number"));
     let rounds = arguments.next().unwrap_or(20_000);
     let seed = arguments.next().unwrap_or(1);
+    // Every call ends. Should one not, a signal ends the program, and that is a failure too.
+    unsafe { alarm(60 + (rounds / 100) as c_uint) };
     let mut r = Random::seeded(seed);
     let mut lender = Lender::new();
     let mut tally = [0u64; 12];

@@ -6,7 +6,6 @@ ghost use lib.ListN.{length, getD};
 ghost use Rattle.storecheck.specs.Little.{halfAt, wordAt};
 use libc::STDIN_FILENO;
 use libc::STDOUT_FILENO;
-use trail::Answer;
 
 const MOST_WORDS: usize = 1024;
 
@@ -50,12 +49,12 @@ fn words(bytes: &[u8], top: usize, cells: &mut [u64])
 }
 
 // The store check of the first `top` words, with no trail and no marks.
-fn check(cells: &[u64], top: usize) -> Answer
+fn check(cells: &[u64], top: usize) -> u64
     requires { ⌜ top ≤ length (now cells) ⌝ }
 {
     let used = &cells[..top];
     let none = &cells[..0];
-    trail::check(used, top, none, 0, none, 0)
+    engine::trisculap_check(used, top, none, 0, none, 0)
 }
 
 fn say(text: &[u8]) {
@@ -78,12 +77,12 @@ fn main() {
     words(&bytes, top, &mut cells);
     say(b"cells ");
     io::print_decimal(STDOUT_FILENO, top as u64);
-    match check(&cells, top) {
-        Answer::Done => say(b": well formed\n"),
-        Answer::Refused(r) => {
-            say(b": refused ");
-            io::print_decimal(STDOUT_FILENO, cell::refusal_number(r));
-            say(b"\n");
-        }
+    let returned = check(&cells, top);
+    if returned == 0 {
+        say(b": well formed\n");
+    } else {
+        say(b": refused ");
+        io::print_decimal(STDOUT_FILENO, returned);
+        say(b"\n");
     }
 }

@@ -1,9 +1,6 @@
 // What the trial programs print: names, numbers, answers and all lent words. A trial program runs the
 // calls on real words and prints what they answer and leave; its file `stdout` says what that must be.
-use cell::Made;
-use cell::Refusal;
 use libc::STDOUT_FILENO;
-use trail::Answer;
 
 // The words that the trials are made of: a tag to add a cell number to, and atoms with their arity.
 pub const VAR: u64 = 0x0400_0000_0000_0000;
@@ -40,25 +37,48 @@ pub fn word(w: u64) {
 }
 
 // "refused" and its number.
-pub fn refused(r: Refusal) {
+fn refused(returned: u64) {
     say(b"refused ");
-    io::print_decimal(STDOUT_FILENO, cell::refusal_number(r));
+    io::print_decimal(STDOUT_FILENO, returned);
 }
 
-pub fn answer(a: Answer) {
-    match a {
-        Answer::Done => say(b"done"),
-        Answer::Refused(r) => refused(r),
+// What a call that has nothing to tell returned.
+pub fn done(returned: u64) {
+    if returned == 0 {
+        say(b"done");
+    } else {
+        refused(returned);
     }
 }
 
-pub fn made(m: Made) {
-    match m {
-        Made::Word(w) => {
-            say(b"word ");
-            word(w);
-        }
-        Made::Refused(r) => refused(r),
+// What a call that tells a word returned and told.
+pub fn told(returned: u64, w: u64) {
+    if returned == 0 {
+        say(b"word ");
+        word(w);
+    } else {
+        refused(returned);
+    }
+}
+
+// What a call that tells a number returned, and the number behind its name.
+pub fn numbered(name: &[u8], returned: u64, n: usize) {
+    if returned == 0 {
+        say(name);
+        number(n);
+    } else {
+        refused(returned);
+    }
+}
+
+// What a call that says yes or no returned and said.
+pub fn decided(yes: &[u8], no: &[u8], returned: u64, answer: u64) {
+    if returned != 0 {
+        refused(returned);
+    } else if answer == 1 {
+        say(yes);
+    } else {
+        say(no);
     }
 }
 

@@ -1,6 +1,5 @@
 // Runs the copy on the bench heaps, on shared, overlapping and cyclic terms, with just enough room
 // and with too little, and prints the answer, all cells and how much of the work buffer is 0.
-use copy::Copied;
 use trial::A;
 use trial::F_2;
 use trial::FIXNUM;
@@ -16,13 +15,9 @@ use trial::say;
 fn copy_in(name: &[u8], cells: &mut [u64], top: usize, work: &mut [u64], root: usize) {
     let mut count = top;
     say(name);
-    match copy::copy_term(cells, &mut count, work, root) {
-        Copied::At(n) => {
-            say(b"at ");
-            number(n);
-        }
-        Copied::Refused(r) => trial::refused(r),
-    }
+    let mut at: usize = 0;
+    let r = engine::trisculap_copy(cells, &mut count, work, root, &mut at);
+    trial::numbered(b"at ", r, at);
     say(b", top ");
     number(count);
     say(b", work words 0: ");

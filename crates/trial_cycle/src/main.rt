@@ -2,7 +2,6 @@
 // stores as large as they get.
 ghost use Prim.Native.Nat.{_+_, _*_, _<_};
 ghost use Rattle.store.specs.Store.{limit};
-use cycle::Verdict;
 use store::LIMIT;
 use trial::A;
 use trial::F_2;
@@ -18,11 +17,9 @@ const H_255: u64 = 0x1000_00FF_0000_0068;
 
 fn verdict(name: &[u8], cells: &[u64], top: usize, root: usize) {
     say(name);
-    match cycle::cycle_verdict(cells, top, root) {
-        Verdict::Yes => say(b"cyclic"),
-        Verdict::No => say(b"not cyclic"),
-        Verdict::Refused(r) => trial::refused(r),
-    }
+    let mut yes = 0;
+    let r = engine::trisculap_cyclic(cells, top, root, &mut yes);
+    trial::decided(b"cyclic", b"not cyclic", r, yes);
     line();
 }
 

@@ -12,7 +12,7 @@ const MOST: usize = 0xFFFF_FFFF_FFFF_FFFF;
 fn check(name: &[u8], trail: &[u64], trailed: usize, marks: &[u64], marked: usize) {
     let cells = [0, VAR + 2, VAR + 2, A, STR + 5, G_1, FIXNUM + 1];
     say(name);
-    trial::answer(trail::check(&cells, 7, trail, trailed, marks, marked));
+    trial::done(engine::trisculap_check(&cells, 7, trail, trailed, marks, marked));
     line();
 }
 

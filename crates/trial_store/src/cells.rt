@@ -12,7 +12,7 @@ use trial::say;
 fn cells_check(name: &[u8], cells: &[u64], top: usize) {
     let none = &cells[..0];
     say(name);
-    trial::answer(trail::check(cells, top, none, 0, none, 0));
+    trial::done(engine::trisculap_check(cells, top, none, 0, none, 0));
     say(b"\n");
 }
 
@@ -69,7 +69,9 @@ pub fn cell_rules() {
 
 fn follow(name: &[u8], cells: &[u64], top: usize, at: usize) {
     say(name);
-    trial::made(store::follow(cells, top, at));
+    let mut word = 0;
+    let r = engine::trisculap_follow(cells, top, at, &mut word);
+    trial::told(r, word);
     say(b"\n");
 }
 
@@ -84,18 +86,19 @@ pub fn follows() {
     follow(b"follow in a store that is not well formed: ", &cells, 7, 1);
 }
 
-pub fn numbers() {
-    say(b"2^55 - 1: ");
-    trial::made(cell::number_cell(0x007F_FFFF_FFFF_FFFF));
-    say(b"\n2^55: ");
-    trial::made(cell::number_cell(0x0080_0000_0000_0000));
-    say(b"\n-2^55: ");
-    trial::made(cell::number_cell(-0x0080_0000_0000_0000));
-    say(b"\n-2^55 - 1: ");
-    trial::made(cell::number_cell(-0x0080_0000_0000_0001));
-    say(b"\n-1: ");
-    trial::made(cell::number_cell(-1));
-    say(b"\n0: ");
-    trial::made(cell::number_cell(0));
+fn number(name: &[u8], n: i64) {
+    say(name);
+    let mut word = 0;
+    let r = engine::trisculap_number(n, &mut word);
+    trial::told(r, word);
     say(b"\n");
+}
+
+pub fn numbers() {
+    number(b"2^55 - 1: ", 0x007F_FFFF_FFFF_FFFF);
+    number(b"2^55: ", 0x0080_0000_0000_0000);
+    number(b"-2^55: ", -0x0080_0000_0000_0000);
+    number(b"-2^55 - 1: ", -0x0080_0000_0000_0001);
+    number(b"-1: ", -1);
+    number(b"0: ", 0);
 }

@@ -1,7 +1,6 @@
 // Heap B with each bit of each cell flipped.
 ghost use Prim.Native.Nat.{_<_};
 ghost use lib.ListN.{length};
-use trail::Answer;
 use trial::G_1;
 use trial::STR;
 use trial::VAR;
@@ -11,10 +10,7 @@ use trial::say;
 
 fn is_done(cells: &[u64], top: usize) -> bool {
     let none = &cells[..0];
-    match trail::check(cells, top, none, 0, none, 0) {
-        Answer::Done => true,
-        Answer::Refused(_) => false,
-    }
+    engine::trisculap_check(cells, top, none, 0, none, 0) == 0
 }
 
 fn flip(cells: &mut [u64], i: usize, bit: u32)

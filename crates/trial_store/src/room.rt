@@ -1,5 +1,4 @@
 // Appends up to the limit and past it, in exactly as many lent cells as the limit.
-use append::Placed;
 use store::LIMIT;
 use trial::FIXNUM;
 use trial::line;
@@ -11,13 +10,9 @@ fn fill(name: &[u8], words: &[u64]) {
     let mut top: usize = 1;
     let none = &words[..0];
     say(name);
-    match append::append(&mut cells, &mut top, none, 0, none, 0, words) {
-        Placed::At(n) => {
-            say(b"at ");
-            number(n);
-        }
-        Placed::Refused(r) => trial::refused(r),
-    }
+    let mut at: usize = 0;
+    let r = engine::trisculap_append(&mut cells, &mut top, none, 0, none, 0, words, &mut at);
+    trial::numbered(b"at ", r, at);
     say(b", top ");
     number(top);
     line();

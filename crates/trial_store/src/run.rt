@@ -1,14 +1,11 @@
 // A history of calls on one store, with all lent words after each; and stores that a rollback would
 // break.
-use append::Placed;
-use marks::Marked;
 use trial::A;
 use trial::G_1;
 use trial::LIS;
 use trial::STR;
 use trial::VAR;
 use trial::line;
-use trial::number;
 use trial::say;
 
 // All lent words and counts.
@@ -21,30 +18,13 @@ pub struct Book {
     pub marked: usize,
 }
 
-fn placed(p: Placed) {
-    match p {
-        Placed::At(n) => {
-            say(b"at ");
-            number(n);
-        }
-        Placed::Refused(r) => trial::refused(r),
-    }
+fn numbered(name: &[u8], returned: u64, n: usize) {
+    trial::numbered(name, returned, n);
     line();
 }
 
-fn noted(m: Marked) {
-    match m {
-        Marked::Number(n) => {
-            say(b"mark ");
-            number(n);
-        }
-        Marked::Refused(r) => trial::refused(r),
-    }
-    line();
-}
-
-fn answered(a: trail::Answer) {
-    trial::answer(a);
+fn done(returned: u64) {
+    trial::done(returned);
     line();
 }
 
@@ -76,7 +56,18 @@ impl Book {
         let marks = self.marks;
         let marked = self.marked;
         say(name);
-        placed(append::append(&mut cells, &mut top, &trail, trailed, &marks, marked, words));
+        let mut at: usize = 0;
+        let r = engine::trisculap_append(
+            &mut cells,
+            &mut top,
+            &trail,
+            trailed,
+            &marks,
+            marked,
+            words,
+            &mut at,
+        );
+        numbered(b"at ", r, at);
         Book {
             cells,
             top,
@@ -95,7 +86,17 @@ impl Book {
         let mut marks = self.marks;
         let mut marked = self.marked;
         say(name);
-        noted(marks::mark(&cells, top, &trail, trailed, &mut marks, &mut marked));
+        let mut n: usize = 0;
+        let r = engine::trisculap_mark(
+            &cells,
+            top,
+            &trail,
+            trailed,
+            &mut marks,
+            &mut marked,
+            &mut n,
+        );
+        numbered(b"mark ", r, n);
         Book {
             cells,
             top,
@@ -114,7 +115,7 @@ impl Book {
         let mut marks = self.marks;
         let mut marked = self.marked;
         say(name);
-        answered(marks::cut(&cells, top, &trail, trailed, &mut marks, &mut marked, k));
+        done(engine::trisculap_cut(&cells, top, &trail, trailed, &mut marks, &mut marked, k));
         Book {
             cells,
             top,
@@ -133,7 +134,7 @@ impl Book {
         let mut marks = self.marks;
         let mut marked = self.marked;
         say(name);
-        answered(marks::rollback(
+        done(engine::trisculap_rollback(
             &mut cells,
             &mut top,
             &mut trail,

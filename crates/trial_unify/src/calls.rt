@@ -2,29 +2,24 @@
 use trial::line;
 use trial::number;
 use trial::say;
-use unifier::Unified;
 
 // The two kinds of call.
 pub const PLAIN: bool = false;
 
 pub const CHECKED: bool = true;
 
-pub fn answer(u: Unified) {
-    match u {
-        Unified::Yes => say(b"yes"),
-        Unified::No => say(b"no unifier"),
-        Unified::Refused(r) => trial::refused(r),
-    }
+pub fn answer(returned: u64, yes: u64) {
+    trial::decided(b"yes", b"no unifier", returned, yes);
 }
 
 // The roots, the answer, the trail count, and how many work words at the start are 0.
-fn report(u: Unified, trailed: usize, work: &[u64], a: usize, b: usize) {
+fn report(returned: u64, yes: u64, trailed: usize, work: &[u64], a: usize, b: usize) {
     say(b"(");
     number(a);
     say(b", ");
     number(b);
     say(b"): ");
-    answer(u);
+    answer(returned, yes);
     say(b", trail count ");
     number(trailed);
     say(b", work words 0: ");
@@ -45,13 +40,25 @@ pub fn call(
     b: usize,
 ) {
     say(name);
+    let mut yes = 0;
     if kind == CHECKED {
         say(b", checked ");
-        let u = unifier::unify_with_occurs_check(cells, top, trail, trailed, &[], 0, work, a, b);
-        report(u, *trailed, work, a, b);
+        let r = engine::trisculap_unify_checked(
+            cells,
+            top,
+            trail,
+            trailed,
+            &[],
+            0,
+            work,
+            a,
+            b,
+            &mut yes,
+        );
+        report(r, yes, *trailed, work, a, b);
     } else {
         say(b", plain ");
-        let u = unifier::unify(cells, top, trail, trailed, &[], 0, work, a, b);
-        report(u, *trailed, work, a, b);
+        let r = engine::trisculap_unify(cells, top, trail, trailed, &[], 0, work, a, b, &mut yes);
+        report(r, yes, *trailed, work, a, b);
     }
 }

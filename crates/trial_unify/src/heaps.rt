@@ -3,7 +3,6 @@
 use crate::calls;
 use crate::calls::CHECKED;
 use crate::calls::PLAIN;
-use cycle::Verdict;
 use trial::A;
 use trial::F_2;
 use trial::FIXNUM;
@@ -83,11 +82,9 @@ impl Heap {
     fn verdict(self, name: &[u8], root: usize) -> Heap {
         let cells = self.cells;
         say(name);
-        match cycle::cycle_verdict(&cells, self.top, root) {
-            Verdict::Yes => say(b"cyclic"),
-            Verdict::No => say(b"not cyclic"),
-            Verdict::Refused(r) => trial::refused(r),
-        }
+        let mut yes = 0;
+        let r = engine::trisculap_cyclic(&cells, self.top, root, &mut yes);
+        trial::decided(b"cyclic", b"not cyclic", r, yes);
         line();
         self
     }
@@ -152,9 +149,10 @@ fn answer(x: u64, y: u64, kind: bool, a: usize, b: usize) {
     let mut trail = [0u64; 1];
     let mut n = 0;
     let mut work = [7u64; 108];
+    let mut yes = 0;
     say(b" ");
     if kind == CHECKED {
-        calls::answer(unifier::unify_with_occurs_check(
+        let r = engine::trisculap_unify_checked(
             &mut cells,
             9,
             &mut trail,
@@ -164,9 +162,23 @@ fn answer(x: u64, y: u64, kind: bool, a: usize, b: usize) {
             &mut work,
             a,
             b,
-        ));
+            &mut yes,
+        );
+        calls::answer(r, yes);
     } else {
-        calls::answer(unifier::unify(&mut cells, 9, &mut trail, &mut n, &[], 0, &mut work, a, b));
+        let r = engine::trisculap_unify(
+            &mut cells,
+            9,
+            &mut trail,
+            &mut n,
+            &[],
+            0,
+            &mut work,
+            a,
+            b,
+            &mut yes,
+        );
+        calls::answer(r, yes);
     }
 }
 

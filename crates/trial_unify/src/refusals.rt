@@ -69,7 +69,8 @@ fn marked(name: &[u8], top: u64) {
     let marks = [top, 0];
     let mut work = [7u64; 49];
     say(name);
-    calls::answer(unifier::unify(
+    let mut yes = 0;
+    let r = engine::trisculap_unify(
         &mut cells,
         4,
         &mut trail,
@@ -79,7 +80,9 @@ fn marked(name: &[u8], top: u64) {
         &mut work,
         1,
         1,
-    ));
+        &mut yes,
+    );
+    calls::answer(r, yes);
     line();
 }
 

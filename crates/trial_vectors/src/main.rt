@@ -3,12 +3,9 @@
 //   CALL A B ANSWER TOP cells.. NEW-TOP cells.. ENTRIES trail..
 // CALL is 1 plain, 2 checked, 3 copy, 4 cyclic; cell 0 is left out of the cells; 0 ends the list.
 ghost use Prim.Native.Nat.{_≤_};
-use copy::Copied;
-use cycle::Verdict;
 use libc::STDIN_FILENO;
 use trial::number;
 use trial::say;
-use unifier::Unified;
 
 const MOST_BYTES: usize = 0x4_0000;
 
@@ -110,27 +107,9 @@ fn same(xs: &[u64; MOST_WORDS], ys: &[u64; MOST_WORDS]) -> bool {
     true
 }
 
-fn copied(cells: &mut [u64], top: &mut usize, work: &mut [u64], root: usize) -> u64 {
-    match copy::copy_term(cells, top, work, root) {
-        Copied::At(n) => n as u64,
-        Copied::Refused(_) => REFUSED,
-    }
-}
-
-fn cyclic(cells: &[u64], top: usize, root: usize) -> u64 {
-    match cycle::cycle_verdict(cells, top, root) {
-        Verdict::Yes => 1,
-        Verdict::No => 0,
-        Verdict::Refused(_) => REFUSED,
-    }
-}
-
-fn said(u: Unified) -> u64 {
-    match u {
-        Unified::Yes => 1,
-        Unified::No => 0,
-        Unified::Refused(_) => REFUSED,
-    }
+// An answer, or what stands for a refusal.
+fn said(returned: u64, answer: u64) -> u64 {
+    if returned == 0 { answer } else { REFUSED }
 }
 
 fn plain(
@@ -143,7 +122,9 @@ fn plain(
     b: usize,
 ) -> u64 {
     let none = [0u64; 1];
-    said(unifier::unify(cells, top, trail, trailed, &none, 0, work, a, b))
+    let mut yes = REFUSED;
+    let r = engine::trisculap_unify(cells, top, trail, trailed, &none, 0, work, a, b, &mut yes);
+    said(r, yes)
 }
 
 fn checked(
@@ -156,7 +137,32 @@ fn checked(
     b: usize,
 ) -> u64 {
     let none = [0u64; 1];
-    said(unifier::unify_with_occurs_check(cells, top, trail, trailed, &none, 0, work, a, b))
+    let mut yes = REFUSED;
+    let r = engine::trisculap_unify_checked(
+        cells,
+        top,
+        trail,
+        trailed,
+        &none,
+        0,
+        work,
+        a,
+        b,
+        &mut yes,
+    );
+    said(r, yes)
+}
+
+fn copied(cells: &mut [u64], top: &mut usize, work: &mut [u64], root: usize) -> u64 {
+    let mut at: usize = 0;
+    let r = engine::trisculap_copy(cells, top, work, root, &mut at);
+    said(r, at as u64)
+}
+
+fn cyclic(cells: &[u64], top: usize, root: usize) -> u64 {
+    let mut yes = REFUSED;
+    let r = engine::trisculap_cyclic(cells, top, root, &mut yes);
+    said(r, yes)
 }
 
 // Makes a call; 1 for yes, 0 for no, or where a copy stands.

@@ -12,11 +12,11 @@ slice-aggregate-used c = sym (length-take-le _ _ (omega arith))
 slice-aggregate-none : tie.Need-slice-aggregate-none
 slice-aggregate-none c = search needs
 
-check-requires : tie.Need-check-requires
-check-requires c κs = search needs
+trisculap-check-requires : tie.Need-trisculap-check-requires
+trisculap-check-requires c κs = search needs
 
 returns : tie.Need-returns
 returns c = search needs
 
 pub check-spec : {M : Type 1} → statement M
-check-spec = tie.close (tie.spec slice-aggregate-used slice-aggregate-none check-requires returns)
+check-spec = tie.close (tie.spec slice-aggregate-used slice-aggregate-none trisculap-check-requires returns)

@@ -1,3 +1,4 @@
+-- `trial_vectors::read_list` meets its contract, which asks only that it is safe and ends.
 use Prim.Native.Nat.{_-_, _≤_}
 use borrow.Author.Needs.{needs}
 use Rattle.trial_vectors.proofs.read_list.Statement.{statement}

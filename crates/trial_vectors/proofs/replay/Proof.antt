@@ -1,3 +1,4 @@
+-- `trial_vectors::replay` meets its contract, which asks only that it is safe and ends.
 use Prim.Native.Nat.{_-_, _≤_}
 use lib.ListN.{length}
 use borrow.Author.Needs.{needs}
