@@ -54,11 +54,14 @@ fn unifications() -> Vec<Workload> {
 
 fn copies_and_cycles() -> Vec<Workload> {
     let half = |name, shape: Shape| workload(name, shape, ONE_LIST, LIMIT, &[COPY]);
+    // There is room for one of the two terms and not for both.
+    let crowded = |name, shape: Shape| workload(name, shape, 2 * LIMIT / 3, LIMIT, &[COPY]);
     let full = |name, shape: Shape| workload(name, shape, LIMIT, LIMIT, &[CYCLIC]);
     vec![
         half("copy: list of 1,000 elements", list),
         half("copy: deep shared term, 666 levels", deep_and_shared),
         half("copy: wide shared term, 255 arguments", wide_and_shared),
+        crowded("copy: one of two lists, little room left", variables_and_constants),
         full("cyclic: list of 2,046 elements", list),
         full("cyclic: deep shared term, 1,364 levels", deep_and_shared),
         full("cyclic: wide shared term, 255 arguments", wide_and_shared),
