@@ -1,7 +1,7 @@
 //! The proved engine as an engine here: the C functions of `trisculap.h`, linked from libengine.a
 //! (feature `archive`). It also checks the lent words that an outcome does not show.
 
-use trisculap::c;
+use trisculap::{WORK_PER_CELL, c};
 
 use crate::case::{Answer, Call, Case, Engine, Outcome};
 
@@ -33,7 +33,7 @@ impl<'a> Lent<'a> {
             trail: vec![0; top],
             trail_count: 0,
             marks: vec![0; 2],
-            work: vec![UNTOUCHED; 12 * top + 5],
+            work: vec![UNTOUCHED; WORK_PER_CELL * top + 5],
         }
     }
 
@@ -58,7 +58,7 @@ impl<'a> Lent<'a> {
     }
 
     fn broken_by_answer(&self, work_after: u64) -> Option<&'static str> {
-        let (needed, spare) = self.work.split_at(12 * self.entry.len());
+        let (needed, spare) = self.work.split_at(WORK_PER_CELL * self.entry.len());
         let holds = |words: Option<&[u64]>, value| words.is_some_and(|w| all(w, value));
         first_broken(&[
             (all(needed, work_after), "the needed work words"),

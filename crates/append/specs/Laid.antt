@@ -28,9 +28,6 @@ module _ (i : ℕ) (ws d : List ℕ) where
       go zero (w ∷ ws) (x ∷ d) h l = refl
       go (suc i) (w ∷ ws) (x ∷ d) h l = ap (λ (t : List ℕ). w ∷ t) (go i ws d (le-of-suc-le-suc h) (le-of-suc-le-suc l))
 
-  pub lay-length : i ≤ length ws → length ws ≤ length d → length (take i ws ++ drop i d) ≡ length d
-  lay-length h l = simp (length-append, length-take, length-drop) (omega arith)
-
   module _ (x : List ℕ) (e : x ≡ take i ws ++ drop i d) where
     pub lay-more : i < length ws → length ws ≤ length d → set x i (getD ws i 0) ≡ take (i + 1) ws ++ drop (i + 1) d
     lay-more h l = rw (add-one i) (ap (λ (y : List ℕ). set y i (getD ws i 0)) e ∙ lay-suc h l)
@@ -38,10 +35,6 @@ module _ (i : ℕ) (ws d : List ℕ) where
     pub lay-done : i ≡ length ws → x ≡ front ws d
     unfolding front
     lay-done q = e ∙ rw (q, take-length)
-
-pub front-length : (ws d : List ℕ) → length ws ≤ length d → length (front ws d) ≡ length d
-unfolding front
-front-length ws d l = simp (length-append, length-drop) (omega arith)
 
 -- ---- what a callee left in the part from a place to the end, said of the whole
 module _ (s : List ℕ) (top : ℕ) (within : top ≤ length s) where

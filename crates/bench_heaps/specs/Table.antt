@@ -20,7 +20,7 @@ use Rattle.cycle.specs.Kids.{arityKind, arityAt, degKind, deg, kidKind, kid, he
 use Rattle.cycle.specs.Verdict.{paths, cyclicAt, verdictOf}
 use Rattle.cycle.specs.Room.{reaches, strReached, lisReached, runRoom, roomFrom, roomBy, roomOf}
 use Rattle.terms.specs.View.{strView, viewKind, funKind, behind}
-use Rattle.chains.specs.Work.{cleared}
+use Rattle.chains.specs.Work.{workNeed, cleared}
 use Rattle.unification.specs.Machine.{sameConstant, sameFun, rule, args, actOf, isCompound, stopped, unified}
 use Rattle.unification.specs.Machine as Machine
 use Rattle.unification.specs.Calls.{unbound, plainCheck, checkedCheck, answered, plainly, checkedly}
@@ -66,13 +66,13 @@ store heap free entries work =
     (stateOf (0 ∷ map wordOfKind heap ++ replicate free 0) (1 + length heap) (entries ++ replicate (2 - length entries) 0) (length entries) (replicate 2 0) 0)
     work
 
--- 12 x `top` work words and one more, all 5
+-- as many work words as a call wants, 12 x `top`, and one more, all 5
 abbrev fives : ℕ → List ℕ
-fives top = replicate (12 * top + 1) 5
+fives top = replicate (workNeed top + 1) 5
 
--- the first 12 x `top` are 0, and the rest is unchanged
+-- those that a call wants are 0, and the rest is unchanged
 abbrev zeros : ℕ → List ℕ
-zeros top = replicate (12 * top) 0 ++ 5 ∷ []
+zeros top = replicate (workNeed top) 0 ++ 5 ∷ []
 
 -- after P1: cell 3 is Str 2, and the trail has 3
 abbrev after-P1 : Lent

@@ -23,10 +23,6 @@ module _ {s : List ℕ} where
   ahead-join (next n) q = later n q
   ahead-join (later n p) q = later n (ahead-join p q)
 
-  pub ahead-moves : {i j : ℕ} → Ahead s i j → step s i ≡ i → ⊥
-  ahead-moves (next n) = n
-  ahead-moves (later n p) = n
-
   -- one step is a look
   pub onward-step : (i r : ℕ) → r ≡ step s i → Onward s i r
   onward-step i r e =

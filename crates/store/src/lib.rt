@@ -8,7 +8,6 @@ ghost use Rattle.store.specs.Store.{limit, kindAt, isHeader, isAtom, hea
 ghost use Rattle.store.specs.Survey.{keptOf, StandsAt};
 ghost use Rattle.store.specs.Zeros.{zeroed};
 ghost use Rattle.store.specs.Follow.{followed};
-use cell::Cell;
 use cell::Kind;
 use cell::Made;
 use cell::Refusal;
@@ -284,13 +283,4 @@ pub fn follow(cells: &[u64], top: usize, at: usize) -> Made
     }
     let e = end_of(cells, top, at);
     Made::Word(cells[e])
-}
-
-// The cell where following ends, for a caller that knows the store to be well formed.
-pub fn end_cell(cells: &[u64], top: usize, at: usize) -> Cell
-    requires { ⌜ WellFormed (now cells) top × (termAt (now cells) top at ≡ true) ⌝ }
-    ensures { λ r. ⌜ (r .at ≡ endOf (now (cells .entry)) top at) × (r .kind ≡ kindAt (now (cells .entry)) (r .at)) × (1 ≤ r .at) × (r .at < top) ⌝ }
-{
-    let e = end_of(cells, top, at);
-    cell::read_cell(cells, e)
 }

@@ -11,7 +11,8 @@ const MOST_BYTES: usize = 0x4_0000;
 
 const MOST_WORDS: usize = 128;
 
-const WORK_WORDS: usize = 1536;
+// Twelve for each of as many cells.
+const WORK_WORDS: usize = 12 * MOST_WORDS;
 
 // No call answers this.
 const REFUSED: u64 = 0xFFFF;

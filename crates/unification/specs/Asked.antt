@@ -2,7 +2,6 @@
 use mathlib.Core.Path.{_≡_, refl, sym, ap}
 use mathlib.Core.Bool.{Bool, true, false, not, false≢true}
 use mathlib.Core.List.{List}
-use mathlib.Core.Logic.{_⊎_, inl, inr}
 use Prim.Native.Nat.{ℕ, _+_, _-_, _<_, _≤_}
 use native.Mathlib.Omega.{arith}
 use lib.Dec.{leb}
@@ -97,22 +96,9 @@ module _ (s : State) (work : List ℕ) (a b : ℕ) where
         unfolding plainCheck
         refuses-work h = rw (c, p, q, lt-leb (workNeed (s .top)) (length work) h)
 
-        pub refuses-room : workNeed (s .top) ≤ length work → length (s .trail) - s .trailed < unbound (s .cells) (s .top) → plainCheck s work a b ≡ Refused TrailRoom
-        unfolding plainCheck
-        refuses-room w h = rw (c, p, q, le-leb (workNeed (s .top)) (length work) w, lt-leb (unbound (s .cells) (s .top)) (length (s .trail) - s .trailed) h)
-
   pub refuses-plain : (e : Refusal) → plainCheck s work a b ≡ Refused e → checkedCheck s work a b ≡ Refused e
   unfolding checkedCheck
   refuses-plain e c = rw c
-
-  pub refuses-cycle : plainCheck s work a b ≡ Done → (cyclicAt (s .cells) (s .top) a ≡ true) ⊎ (cyclicAt (s .cells) (s .top) b ≡ true) → checkedCheck s work a b ≡ Refused Cycle
-  unfolding checkedCheck
-  refuses-cycle c (inl p) = rw (c, p)
-  refuses-cycle c (inr q) = at (cyclicAt (s .cells) (s .top) a) refl
-    where
-      at : (x : Bool) → cyclicAt (s .cells) (s .top) a ≡ x → (plainCheck s work a b then need (not x) Cycle then need (not (cyclicAt (s .cells) (s .top) b)) Cycle) ≡ Refused Cycle
-      at true p = rw c
-      at false p = rw (c, q)
 
   -- ---- a result, from the ending of the run
   pub plain-says : plainCheck s work a b ≡ Done → plainly s work a b ≡ answered s work (unified false s a b)

@@ -21,7 +21,7 @@ use Rattle.cycle.specs.Verdict.{paths, cyclicAt}
 use Rattle.cycle.specs.Room.{reaches}
 use Rattle.terms.specs.View.{strView, viewKind, funKind, behind}
 use Rattle.unification.specs.Machine.{sameNumber, sameConstant, sameFun, rule, merge, args, actOf, isCompound, stopped, run, unified}
-use Rattle.chains.specs.Work.{cleared}
+use Rattle.chains.specs.Work.{workNeed, cleared}
 use Rattle.unification.specs.Calls.{Result, unbound, plainCheck, checkedCheck, answered, plainly, checkedly}
 
 -- cell 0, and a cell of each kind given
@@ -34,7 +34,7 @@ store ks = stateOf (heap ks) (length (heap ks)) (replicate 3 0) 0 [] 0
 
 -- a call with as many work words as it takes, and one more; checked where the first is true
 abbrev called : Bool × State × ℕ × ℕ → Result
-called c = cond (c .0) checkedly plainly (c .1) (replicate (12 * c .1 .top + 1) 5) (c .2) (c .3)
+called c = cond (c .0) checkedly plainly (c .1) (replicate (workNeed (c .1 .top) + 1) 5) (c .2) (c .3)
 
 -- the answer, the cells, the trail and its count
 abbrev told : Result → Outcome × List ℕ × List ℕ × ℕ

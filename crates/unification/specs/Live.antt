@@ -122,13 +122,6 @@ module _ (s : State) (f : ℕ) (m : Machine) (p : ℕ × ℕ) (rest : List (ℕ 
   pub term-b : termAt (m .cells) top (p .1) ≡ true
   term-b = all-terms .0 .1
 
-  -- they are used cells
-  pub used-a : (1 ≤ endA) × (endA < top)
-  used-a = let u = term-used (m .cells) top (p .0) term-a in steps-in (m .cells) top (l .store) top (p .0) (u .0) (u .1)
-
-  pub used-b : (1 ≤ endB) × (endB < top)
-  used-b = let u = term-used (m .cells) top (p .1) term-b in steps-in (m .cells) top (l .store) top (p .1) (u .0) (u .1)
-
   abbrev pub CaseHere : Act → Type 0
   CaseHere u = Case sh (m .classes) (lookAt (m .cells) top (p .0)) (lookAt (m .cells) top (p .1)) u
 

@@ -1,6 +1,6 @@
 //! Heap B: one term, g(X), at cell 1; its variable X is cell 3.
 
-use trisculap::{number, Refusal, Store};
+use trisculap::{number, Refusal, Store, WORK_PER_CELL};
 
 const fn cell(tag: u64, value: u64) -> u64 {
     tag << 58 | value
@@ -22,13 +22,13 @@ struct Buffers {
     cells: [u64; 16],
     trail: [u64; 16],
     marks: [u64; 2],
-    work: [u64; 12 * 16],
+    work: [u64; WORK_PER_CELL * 16],
 }
 
 fn heap_b() -> Buffers {
     let mut cells = [0; 16];
     cells[1..4].copy_from_slice(&[str(2), atom('g', 1), var(3)]);
-    Buffers { cells, trail: [0; 16], marks: [0; 2], work: [7; 12 * 16] }
+    Buffers { cells, trail: [0; 16], marks: [0; 2], work: [7; WORK_PER_CELL * 16] }
 }
 
 impl Buffers {
@@ -53,8 +53,8 @@ fn a_unification_is_made_and_taken_back() {
     assert_eq!(store.mark(), Ok(1));
     assert_eq!(store.unify(1, 3), Ok(true));
     assert_eq!((store.cells[3], store.trail[0], store.trailed), (str(2), 3, 1));
-    assert!(store.work[..12 * 4].iter().all(|word| *word == 0));
-    assert!(store.work[12 * 4..].iter().all(|word| *word == 7));
+    assert!(store.work[..WORK_PER_CELL * 4].iter().all(|word| *word == 0));
+    assert!(store.work[WORK_PER_CELL * 4..].iter().all(|word| *word == 7));
     assert_eq!(store.cyclic(1), Ok(true));
     assert_eq!(store.unify_checked(1, 3), Err(Refusal::Cycle));
     assert_eq!(store.rollback(1), Ok(()));

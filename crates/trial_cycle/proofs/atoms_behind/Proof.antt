@@ -3,8 +3,6 @@ use Prim.Native.Nat.{_-_, _≤_}
 use borrow.Author.Needs.{needs}
 use Rattle.trial_cycle.proofs.atoms_behind.Statement.{statement}
 use Rattle.trial_cycle.proofs.atoms_behind.Tie as tie
-use Rattle.trial_cycle.proofs.atoms_behind.Reads as reads
-use Rattle.trial_cycle.proofs.atoms_behind.Lts as lts
 
 abbrev Inv-loop : tie.InvT-loop
 Inv-loop cells₀ header k₀ cells k = (1 ≤ k) × (k ≤ 256)
@@ -12,35 +10,27 @@ Inv-loop cells₀ header k₀ cells k = (1 ≤ k) × (k ≤ 256)
 abbrev μ-loop : tie.MeasureT-loop
 μ-loop cells₀ header k₀ cells k = 256 - k
 
--- src/main.rt:142:5
 loop-holds : tie.Need-loop-holds Inv-loop μ-loop
 loop-holds c = search needs
 
--- src/main.rt:143:15
 add-cells : tie.Need-add-cells Inv-loop μ-loop
 add-cells c = search needs
 
--- src/main.rt:143:9
 mul-cells : tie.Need-mul-cells Inv-loop μ-loop
 mul-cells c = search needs
 
--- src/main.rt:143:9
 element-write-cells : tie.Need-element-write-cells Inv-loop μ-loop
 element-write-cells c = search needs
 
--- src/main.rt:144:9
 add-k : tie.Need-add-k Inv-loop μ-loop
 add-k c = search needs
 
--- src/main.rt:142:5
 loop-less : tie.Need-loop-less Inv-loop μ-loop
 loop-less c = search needs
 
--- src/main.rt:142:5
 loop-again : tie.Need-loop-again Inv-loop μ-loop
 loop-again c = search needs
 
--- src/main.rt:138:1
 returns : tie.Need-returns Inv-loop μ-loop
 returns c = search needs
 

@@ -3,8 +3,6 @@ use Prim.Native.Nat.{_-_, _≤_}
 use borrow.Author.Needs.{needs}
 use Rattle.trial_cycle.proofs.chained.Statement.{statement}
 use Rattle.trial_cycle.proofs.chained.Tie as tie
-use Rattle.trial_cycle.proofs.chained.Reads as reads
-use Rattle.trial_cycle.proofs.chained.Lts as lts
 
 abbrev Inv-loop : tie.InvT-loop
 Inv-loop cells₀ last i₀ cells i = 1 ≤ i
@@ -12,39 +10,30 @@ Inv-loop cells₀ last i₀ cells i = 1 ≤ i
 abbrev μ-loop : tie.MeasureT-loop
 μ-loop cells₀ last i₀ cells i = last - i
 
--- src/main.rt:106:5
 loop-holds : tie.Need-loop-holds Inv-loop μ-loop
 loop-holds c = search needs
 
--- src/main.rt:107:27
 add-cells : tie.Need-add-cells Inv-loop μ-loop
 add-cells c = search needs
 
--- src/main.rt:107:20
 add-cells-2 : tie.Need-add-cells-2 Inv-loop μ-loop
 add-cells-2 c = search needs
 
--- src/main.rt:107:9
 mul-cells : tie.Need-mul-cells Inv-loop μ-loop
 mul-cells c = search needs
 
--- src/main.rt:107:9
 element-write-cells : tie.Need-element-write-cells Inv-loop μ-loop
 element-write-cells c = search needs
 
--- src/main.rt:108:9
 add-i : tie.Need-add-i Inv-loop μ-loop
 add-i c = search needs
 
--- src/main.rt:106:5
 loop-less : tie.Need-loop-less Inv-loop μ-loop
 loop-less c = search needs
 
--- src/main.rt:106:5
 loop-again : tie.Need-loop-again Inv-loop μ-loop
 loop-again c = search needs
 
--- src/main.rt:102:1
 returns : tie.Need-returns Inv-loop μ-loop
 returns c = search needs
 

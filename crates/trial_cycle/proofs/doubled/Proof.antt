@@ -3,8 +3,6 @@ use Prim.Native.Nat.{_-_, _≤_}
 use borrow.Author.Needs.{needs}
 use Rattle.trial_cycle.proofs.doubled.Statement.{statement}
 use Rattle.trial_cycle.proofs.doubled.Tie as tie
-use Rattle.trial_cycle.proofs.doubled.Reads as reads
-use Rattle.trial_cycle.proofs.doubled.Lts as lts
 
 abbrev Inv-loop : tie.InvT-loop
 Inv-loop cells₀ levels k₀ cells k = k ≤ levels
@@ -12,103 +10,78 @@ Inv-loop cells₀ levels k₀ cells k = k ≤ levels
 abbrev μ-loop : tie.MeasureT-loop
 μ-loop cells₀ levels k₀ cells k = levels - k
 
--- src/main.rt:80:16
 add-cells : tie.Need-add-cells Inv-loop μ-loop
 add-cells c = search needs
 
--- src/main.rt:80:5
 element-write-cells : tie.Need-element-write-cells Inv-loop μ-loop
 element-write-cells c = search needs
 
--- src/main.rt:82:5
 loop-holds : tie.Need-loop-holds Inv-loop μ-loop
 loop-holds c = search needs
 
--- src/main.rt:83:21
 mul-h : tie.Need-mul-h Inv-loop μ-loop
 mul-h c = search needs
 
--- src/main.rt:83:17
 add-h : tie.Need-add-h Inv-loop μ-loop
 add-h c = search needs
 
--- src/main.rt:84:9
 mul-cells : tie.Need-mul-cells Inv-loop μ-loop
 mul-cells c = search needs
 
--- src/main.rt:84:9
 element-write-cells-2 : tie.Need-element-write-cells-2 Inv-loop μ-loop
 element-write-cells-2 c = search needs
 
--- src/main.rt:85:31
 add-cells-2 : tie.Need-add-cells-2 Inv-loop μ-loop
 add-cells-2 c = search needs
 
--- src/main.rt:85:24
 add-cells-3 : tie.Need-add-cells-3 Inv-loop μ-loop
 add-cells-3 c = search needs
 
--- src/main.rt:85:15
 add-cells-4 : tie.Need-add-cells-4 Inv-loop μ-loop
 add-cells-4 c = search needs
 
--- src/main.rt:85:9
 mul-cells-2 : tie.Need-mul-cells-2 Inv-loop μ-loop
 mul-cells-2 c = search needs
 
--- src/main.rt:85:9
 element-write-cells-3 : tie.Need-element-write-cells-3 Inv-loop μ-loop
 element-write-cells-3 c = search needs
 
--- src/main.rt:86:31
 add-cells-5 : tie.Need-add-cells-5 Inv-loop μ-loop
 add-cells-5 c = search needs
 
--- src/main.rt:86:24
 add-cells-6 : tie.Need-add-cells-6 Inv-loop μ-loop
 add-cells-6 c = search needs
 
--- src/main.rt:86:15
 add-cells-7 : tie.Need-add-cells-7 Inv-loop μ-loop
 add-cells-7 c = search needs
 
--- src/main.rt:86:9
 mul-cells-3 : tie.Need-mul-cells-3 Inv-loop μ-loop
 mul-cells-3 c = search needs
 
--- src/main.rt:86:9
 element-write-cells-4 : tie.Need-element-write-cells-4 Inv-loop μ-loop
 element-write-cells-4 c = search needs
 
--- src/main.rt:87:9
 add-k : tie.Need-add-k Inv-loop μ-loop
 add-k c = search needs
 
--- src/main.rt:82:5
 loop-less : tie.Need-loop-less Inv-loop μ-loop
 loop-less c = search needs
 
--- src/main.rt:82:5
 loop-again : tie.Need-loop-again Inv-loop μ-loop
 loop-again c = search needs
 
--- src/main.rt:89:11
 mul-cells-4 : tie.Need-mul-cells-4 Inv-loop μ-loop
 mul-cells-4 c = search needs
 
--- src/main.rt:89:11
 add-cells-8 : tie.Need-add-cells-8 Inv-loop μ-loop
 add-cells-8 c = search needs
 
--- src/main.rt:89:5
 mul-cells-5 : tie.Need-mul-cells-5 Inv-loop μ-loop
 mul-cells-5 c = search needs
 
--- src/main.rt:89:5
 element-write-cells-5 : tie.Need-element-write-cells-5 Inv-loop μ-loop
 element-write-cells-5 c = search needs
 
--- src/main.rt:77:1
 returns : tie.Need-returns Inv-loop μ-loop
 returns c = search needs
 

@@ -3,8 +3,6 @@ use Prim.Native.Nat.{_-_, _≤_}
 use borrow.Author.Needs.{needs}
 use Rattle.trial_cycle.proofs.structures_of.Statement.{statement}
 use Rattle.trial_cycle.proofs.structures_of.Tie as tie
-use Rattle.trial_cycle.proofs.structures_of.Reads as reads
-use Rattle.trial_cycle.proofs.structures_of.Lts as lts
 
 abbrev Inv-loop : tie.InvT-loop
 Inv-loop cells₀ header i₀ cells i = 1 ≤ i
@@ -12,35 +10,27 @@ Inv-loop cells₀ header i₀ cells i = 1 ≤ i
 abbrev μ-loop : tie.MeasureT-loop
 μ-loop cells₀ header i₀ cells i = header - i
 
--- src/main.rt:132:5
 loop-holds : tie.Need-loop-holds Inv-loop μ-loop
 loop-holds c = search needs
 
--- src/main.rt:133:20
 add-cells : tie.Need-add-cells Inv-loop μ-loop
 add-cells c = search needs
 
--- src/main.rt:133:9
 mul-cells : tie.Need-mul-cells Inv-loop μ-loop
 mul-cells c = search needs
 
--- src/main.rt:133:9
 element-write-cells : tie.Need-element-write-cells Inv-loop μ-loop
 element-write-cells c = search needs
 
--- src/main.rt:134:9
 add-i : tie.Need-add-i Inv-loop μ-loop
 add-i c = search needs
 
--- src/main.rt:132:5
 loop-less : tie.Need-loop-less Inv-loop μ-loop
 loop-less c = search needs
 
--- src/main.rt:132:5
 loop-again : tie.Need-loop-again Inv-loop μ-loop
 loop-again c = search needs
 
--- src/main.rt:128:1
 returns : tie.Need-returns Inv-loop μ-loop
 returns c = search needs
 
