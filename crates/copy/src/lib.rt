@@ -257,16 +257,16 @@ fn free_cells(cells: &[u64], top: usize) -> usize
 }
 
 // Whether there is room for the copy. Where there is for the most that any copy can need, what this
-// one needs is not counted.
+// one needs is not counted; with fewer than two cells free for three in use that is not tried.
 fn copy_fits(cells: &[u64], top: usize, root: usize) -> bool
     requires { ⌜ WellFormed (now cells) top × (termAt (now cells) top root ≡ true) ⌝ }
     ensures { λ r. ⌜ r ≡ roomFor (now (cells .entry)) top (roomOf (now (cells .entry)) top root) ⌝ }
 {
     let free = free_cells(cells, top);
-    if cycle::most_within(cells, top, free) {
+    if 2 * top <= 3 * free && cycle::most_within(cells, top, free) {
         return true;
     }
-    cycle::room(cells, top, root) <= free
+    cycle::room_within(cells, top, root, free)
 }
 
 // Copies the term at `root` to the cells from `top` on and answers the old `top`; refusals 1, 3, 4

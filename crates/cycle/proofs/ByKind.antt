@@ -1,16 +1,17 @@
 -- What each arm of a match on a cell's kind says of the cell's links and of the runs that it names.
 use mathlib.Core.Path.{_≡_, refl, sym, ap, _∙_}
+use mathlib.Core.Bool.{Bool, true, false}
 use mathlib.Core.List.{List, [], _∷_}
 use Prim.Native.Nat.{ℕ, _+_}
 use native.Mathlib.Omega.{arith}
-use borrow.Author.Tests.{eq-eqb, ne-eqb}
+use borrow.Author.Tests.{eq-eqb, ne-eqb, ltb-true, ltb-false}
 use types.Run.{OneOf, miss}
 use denote.Enum.Declared.{tagOf}
 use Rattle.cell.proofs.Kind.{the-type}
 use Rattle.cell.specs.declared.Kind.{Kind}
 use Rattle.cell.specs.declared.Kind.the-variants.{Var, Str, Lis, Atom, Fixnum, Bad}
-use Rattle.store.specs.Store.{kindAt}
-use Rattle.cycle.specs.Kids.{arityKind, arityAt, headKind, head, pairKind, pair}
+use Rattle.store.specs.Store.{kindAt, headerAt}
+use Rattle.cycle.specs.Kids.{arityKind, header-arity, arityAt, headKind, head, pairKind, pair}
 use Rattle.cycle.specs.Most.{ownKind, ownRoom}
 use Rattle.cycle.specs.Links.{linksKind, links, linkKind, link, Span}
 
@@ -116,13 +117,17 @@ module _ (s : List ℕ) (i : ℕ) (q : Kind) (is : q ≡ kindAt s i) where
   unfolding links link
   links-none h = let n = no-link i q h in spans 0 0 (n .1 ∙ ap (linkKind i 0) is) (let m = n .0 ∙ ap (linksKind i) is in omega arith)
 
-  pub own-bare : (f : ℕ) → q ≡ Str f → (a : ℕ) → a ≡ arityAt s f → a ≡ 0 → 1 ≡ ownRoom s i
-  unfolding ownRoom ownKind
-  own-bare f e a p z = sym (ap (ownKind s) (sym is ∙ e) ∙ rw (eq-eqb (arityAt s f) 0 (sym p ∙ z)))
+  pub own-bare : (f : ℕ) → q ≡ Str f → {b : Bool} → b ≡ headerAt s f → b ≡ false → 1 ≡ ownRoom s i
+  unfolding ownRoom ownKind arityAt
+  own-bare f e h n =
+      let a = ltb-false 0 (arityAt s f) (sym (header-arity (kindAt s f)) ∙ sym h ∙ n) in
+      sym (ap (ownKind s) (sym is ∙ e) ∙ rw (eq-eqb (arityAt s f) 0 (omega arith)))
 
-  pub own-held : (f : ℕ) → q ≡ Str f → (a : ℕ) → a ≡ arityAt s f → (a ≡ 0 → ⊥) → 0 ≡ ownRoom s i
-  unfolding ownRoom ownKind
-  own-held f e a p z = sym (ap (ownKind s) (sym is ∙ e) ∙ rw (ne-eqb (arityAt s f) 0 (λ y. z (p ∙ y))))
+  pub own-held : (f : ℕ) → q ≡ Str f → {b : Bool} → b ≡ headerAt s f → b ≡ true → 0 ≡ ownRoom s i
+  unfolding ownRoom ownKind arityAt
+  own-held f e h y =
+      let a = ltb-true 0 (arityAt s f) (sym (header-arity (kindAt s f)) ∙ sym h ∙ y) in
+      sym (ap (ownKind s) (sym is ∙ e) ∙ rw (ne-eqb (arityAt s f) 0 (λ z. omega arith)))
 
   pub own-pair : (l : ℕ) → q ≡ Lis l → 2 ≡ ownRoom s i
   unfolding ownRoom ownKind

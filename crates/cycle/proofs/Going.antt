@@ -1,5 +1,5 @@
 -- The walk as the code keeps it, a lemma for each turn, and the number that falls with each. The code has no list of the path's cells: the cell at j of the path is the one before nexts[j], and from nexts[j] up to ends[j] are the links that are left at the cell before it. The links left at the last cell are from next up to end.
-use mathlib.Core.Path.{_≡_, sym, ap, _∙_}
+use mathlib.Core.Path.{_≡_, refl, sym, ap, _∙_}
 use mathlib.Core.Bool.{Bool, true, false}
 use mathlib.Core.List.{List}
 use Prim.Native.Nat.{ℕ, suc, _+_, _*_, _-_, _<_, _≤_}
@@ -10,11 +10,12 @@ use lib.Seq.{getD-set-same, getD-set-other}
 use Rattle.store.specs.Store.{limit, WellFormed}
 use Rattle.cycle.specs.Links.{links, link, Span, link-next, links-end, links-lt}
 use Rattle.cycle.specs.Tables.{Done, Tables, Walked}
-use Rattle.cycle.proofs.Count.{whites, whites-le, whites-lt, frames, frames-one, frames-last}
+use Rattle.cycle.specs.Met.{metLinks, met-more, met-still}
+use Rattle.cycle.proofs.Count.{whites, whites-all, whites-le, whites-lt, frames, frames-one, frames-last}
 use Rattle.cycle.proofs.Walking.{Walking, Turn, Taken, tip, begun, last, landed, room-for, pushed, passed, turned, popped, finished}
 
-module _ (s : List ℕ) (top root : ℕ) (col₀ : List ℕ) where
-  pub record Going (col nexts ends : List ℕ) (sp next end : ℕ) (met : Bool) : Type 0 where
+module _ (s : List ℕ) (top root : ℕ) (col₀ : List ℕ) (sum₀ : ℕ) where
+  pub record Going (col nexts ends : List ℕ) (sp next end : ℕ) (met : Bool) (sum : ℕ) : Type 0 where
     -- the cells of the path, and how many links of each are gone over
     pub st : List ℕ
     pub at : List ℕ
@@ -26,6 +27,9 @@ module _ (s : List ℕ) (top root : ℕ) (col₀ : List ℕ) where
     -- the link to the next cell of the path is gone over too
     pub saved : (j : ℕ) → suc j < sp → Span s (getD st j 0) (getD at j 0 + 1) (getD nexts (suc j) 0) (getD ends (suc j) 0)
     pub now : 0 < sp → Span s (tip st sp) (tip at sp) next end
+    -- the links of the cells met since are in the sum, which is not too much for a word
+    pub summed : metLinks s top col + sum₀ ≡ metLinks s top col₀ + sum
+    pub few : sum + limit * whites col ≤ limit * limit
 
 -- what is left to do
 abbrev pub left : List ℕ → List ℕ → List ℕ → ℕ → ℕ → ℕ → ℕ
@@ -33,8 +37,13 @@ left col nexts ends sp next end = (limit + 2) * whites col + frames nexts ends s
 
 -- ---- the first cell on the path
 module _ {s col nexts ends : List ℕ} (t : Tables s col nexts ends) (root : ℕ) (b : root < limit) (white : getD col root 0 ≡ 0) where
-  pub started : {top next end : ℕ} → 1 ≤ root → root < top → Span s root 0 next end → Going s top root (set col root 1) (set col root 1) (set nexts 0 (root + 1)) (set ends 0 (root + 1)) 1 next end false
-  started l h p =
+  pub started : {top next end : ℕ} → WellFormed s top → 1 ≤ root → root < top → Span s root 0 next end → Going s top root (set col root 1) (end - next) (set col root 1) (set nexts 0 (root + 1)) (set ends 0 (root + 1)) 1 next end false (end - next)
+  started {top} wf l h p =
+      let lc = t .col-long in
+      let hi = wf .high in
+      let lk = links-lt s top wf root l h in
+      let ww = whites-lt col root 0 (omega arith) white in
+      let wa = whites-all col in
       let ln = t .nexts-long in
       let le = t .ends-long in
       let long : length {A = ℕ} (replicate limit 0) ≡ limit = length-replicate {A = ℕ} limit 0 in
@@ -50,9 +59,15 @@ module _ {s col nexts ends : List ℕ} (t : Tables s col nexts ends) (root : ℕ
         used = λ j q. let z : j ≡ 0 = omega arith in rw (z, getD-set-same ends 0 (root + 1) 0 (omega arith)) (omega arith);
         saved = λ j q. absurd (omega arith);
         now = λ _. rw (first, none) p;
+        summed = refl;
+        few = (let q = p .from in let r = p .to in omega arith);
       }
 
-module _ {s : List ℕ} {top root : ℕ} {col₀ col nexts ends : List ℕ} {sp next end : ℕ} {met : Bool} (wf : WellFormed s top) (g : Going s top root col₀ col nexts ends sp next end met) (some : 0 < sp) where
+  -- at the end the sum is that of the cells met since the start
+  pub summed-all : {top next end : ℕ} (col′ : List ℕ) (sum : ℕ) → 1 ≤ root → root < top → Span s root 0 next end → metLinks s top col′ + (end - next) ≡ metLinks s top (set col root 1) + sum → metLinks s top col′ ≡ metLinks s top col + sum
+  summed-all {top} col′ sum l h p e = let lc = t .col-long in let m = met-more s top col root l h (omega arith) white in let q = p .from in let r = p .to in omega arith
+
+module _ {s : List ℕ} {top root : ℕ} {col₀ : List ℕ} {sum₀ : ℕ} {col nexts ends : List ℕ} {sp next end : ℕ} {met : Bool} {sum : ℕ} (wf : WellFormed s top) (g : Going s top root col₀ sum₀ col nexts ends sp next end met sum) (some : 0 < sp) where
   turn : Turn s top root col₀ col (g .st) (g .at) sp met
   turn = record { formed = wf; walking = g .walking; some = some }
 
@@ -72,7 +87,7 @@ module _ {s : List ℕ} {top root : ℕ} {col₀ col nexts ends : List ℕ} {sp 
         record { turn = turn; one-of = o; leads = p .from ∙ sym (link-next s (tip (g .st) sp) (tip (g .at) sp) o) }
 
     -- it is gone over, to a cell met before
-    over : (met′ : Bool) → Walking s top root col₀ col (g .st) (set (g .at) (sp - 1) (tip (g .at) sp + 1)) sp met′ → Going s top root col₀ col nexts ends sp (next + 1) end met′
+    over : (met′ : Bool) → Walking s top root col₀ col (g .st) (set (g .at) (sp - 1) (tip (g .at) sp + 1)) sp met′ → Going s top root col₀ sum₀ col nexts ends sp (next + 1) end met′ sum
     over met′ w =
         let la = g .walking .at-long in
         let rm = g .walking .room in
@@ -88,19 +103,27 @@ module _ {s : List ℕ} {top root : ℕ} {col₀ col nexts ends : List ℕ} {sp 
           used = g .used;
           saved = λ j q. rw (getD-set-other (g .at) (sp - 1) j (tip (g .at) sp + 1) 0 (λ z. omega arith)) (g .saved j q);
           now = λ _. rw (getD-set-same (g .at) (sp - 1) (tip (g .at) sp + 1) 0 (omega arith)) (record { some = omega arith; from = omega arith; to = p .to });
+          summed = g .summed;
+          few = g .few;
         }
 
-    pub over-done : Done col next → Going s top root col₀ col nexts ends sp (next + 1) end met
+    pub over-done : Done col next → Going s top root col₀ sum₀ col nexts ends sp (next + 1) end met sum
     over-done d = over met (passed taken d)
 
-    pub over-back : getD col next 0 ≡ 1 → Going s top root col₀ col nexts ends sp (next + 1) end true
+    pub over-back : getD col next 0 ≡ 1 → Going s top root col₀ sum₀ col nexts ends sp (next + 1) end true sum
     over-back e = over true (turned taken e)
 
     -- the cell was not met before
     module _ (white : getD col next 0 ≡ 0) {next′ end′ : ℕ} (p : Span s next 0 next′ end′) where
-      pub down : Going s top root col₀ (set col next 1) (set nexts sp (next + 1)) (set ends sp end) (sp + 1) next′ end′ met
+      pub down : Going s top root col₀ sum₀ (set col next 1) (set nexts sp (next + 1)) (set ends sp end) (sp + 1) next′ end′ met (sum + (end′ - next′))
       down =
           let rm = room-for taken white in
+          let lc = g .walking .col-long in
+          let u = landed taken in
+          let hi = wf .high in
+          let lk = links-lt s top wf next (u .0) (u .1) in
+          let pf = p .from in
+          let pt = p .to in
           let ls = g .walking .st-long in
           let la = g .walking .at-long in
           let ln = g .nexts-long in
@@ -124,6 +147,8 @@ module _ {s : List ℕ} {top root : ℕ} {col₀ col nexts ends : List ℕ} {sp 
               | no z ↦ rw (old nexts (next + 1) (suc j) z, old ends end (suc j) z) (g .saved j (omega arith))
             ]);
             now = λ _. let z : sp + 1 - 1 ≡ sp = omega arith in rw (z, last-st, last-at) p;
+            summed = (let m = met-more s top col next (u .0) (u .1) (omega arith) white in let sm = g .summed in omega arith);
+            few = (let ww = whites-lt col next 0 (omega arith) white in let fw = g .few in omega arith);
           }
         where
           before : (j : ℕ) → suc j ≡ sp → Span s (getD (g .st) j 0) (getD (g .at) j 0 + 1) (next + 1) end
@@ -161,11 +186,22 @@ module _ {s : List ℕ} {top root : ℕ} {col₀ col nexts ends : List ℕ} {sp 
         let fr : frames nexts ends sp ≡ frames nexts ends (sp - 1) + (getD ends (sp - 1) 0 - getD nexts (sp - 1) 0 + 1) = ap (frames nexts ends) z ∙ frames-one nexts ends (sp - 1) in
         omega arith
 
-    pub up : Going s top root col₀ (set col (getD nexts (sp - 1) 0 - 1) 2) nexts ends (sp - 1) (getD nexts (sp - 1) 0) (getD ends (sp - 1) 0) met
+    up-summed : metLinks s top (set col (tip (g .st) sp) 2) + sum₀ ≡ metLinks s top col₀ + sum
+    up-summed =
+        let l = last turn in
+        let lc = g .walking .col-long in
+        let m = met-still s top col (tip (g .st) sp) (omega arith) (g .walking .met-all (sp - 1) (omega arith)) in
+        let sm = g .summed in
+        omega arith
+
+    up-few : sum + limit * whites (set col (tip (g .st) sp) 2) ≤ limit * limit
+    up-few = let w = whites-le col (tip (g .st) sp) 1 in let fw = g .few in omega arith
+
+    pub up : Going s top root col₀ sum₀ (set col (getD nexts (sp - 1) 0 - 1) 2) nexts ends (sp - 1) (getD nexts (sp - 1) 0) (getD ends (sp - 1) 0) met sum
     up = rw cell-last (elim (ℕ-discrete (sp - 1) 0) [ yes z ↦ to-none z | no z ↦ to-one z ])
       where
         -- the root is finished
-        to-none : sp - 1 ≡ 0 → Going s top root col₀ (set col (tip (g .st) sp) 2) nexts ends (sp - 1) (getD nexts (sp - 1) 0) (getD ends (sp - 1) 0) met
+        to-none : sp - 1 ≡ 0 → Going s top root col₀ sum₀ (set col (tip (g .st) sp) 2) nexts ends (sp - 1) (getD nexts (sp - 1) 0) (getD ends (sp - 1) 0) met sum
         to-none z = record {
           st = g .st;
           at = g .at;
@@ -176,9 +212,11 @@ module _ {s : List ℕ} {top root : ℕ} {col₀ col nexts ends : List ℕ} {sp 
           used = λ j q. absurd (omega arith);
           saved = λ j q. absurd (omega arith);
           now = λ q. absurd (omega arith);
+          summed = up-summed;
+          few = up-few;
         }
 
-        to-one : (sp - 1 ≡ 0 → ⊥) → Going s top root col₀ (set col (tip (g .st) sp) 2) nexts ends (sp - 1) (getD nexts (sp - 1) 0) (getD ends (sp - 1) 0) met
+        to-one : (sp - 1 ≡ 0 → ⊥) → Going s top root col₀ sum₀ (set col (tip (g .st) sp) 2) nexts ends (sp - 1) (getD nexts (sp - 1) 0) (getD ends (sp - 1) 0) met sum
         to-one n =
             let k = sp - 1 - 1 in
             let z : suc k ≡ sp - 1 = omega arith in
@@ -205,8 +243,10 @@ module _ {s : List ℕ} {top root : ℕ} {col₀ col nexts ends : List ℕ} {sp 
               used = λ j q. g .used j (omega arith);
               saved = λ j q. rw (getD-set-other (g .at) k j (getD (g .at) k 0 + 1) 0 (λ y. omega arith)) (g .saved j (omega arith));
               now = λ _. rw (getD-set-same (g .at) k (getD (g .at) k 0 + 1) 0 (omega arith)) p;
+              summed = up-summed;
+              few = up-few;
             }
 
 -- ---- nothing is left on the path
-pub ended : {s : List ℕ} {top root : ℕ} {col₀ col nexts ends : List ℕ} {sp next end : ℕ} {met : Bool} → Going s top root col₀ col nexts ends sp next end met → sp ≡ 0 → Walked s root col₀ col nexts ends met
+pub ended : {s : List ℕ} {top root : ℕ} {col₀ : List ℕ} {sum₀ : ℕ} {col nexts ends : List ℕ} {sp next end : ℕ} {met : Bool} {sum : ℕ} → Going s top root col₀ sum₀ col nexts ends sp next end met sum → sp ≡ 0 → Walked s root col₀ col nexts ends met
 ended {nexts = nexts} {ends = ends} g e = finished (g .walking) e nexts ends (g .nexts-long) (g .ends-long)

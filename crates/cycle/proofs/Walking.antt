@@ -47,7 +47,8 @@ module _ (s : List ℕ) (top root : ℕ) (col₀ : List ℕ) where
     pub path : (j : ℕ) → suc j < sp → Link s (getD st j 0) (getD st (suc j) 0)
     pub small : (j : ℕ) → j < sp → getD at j 0 ≤ links s (getD st j 0)
     pub gone : (j : ℕ) → j < sp → (k : ℕ) → k < getD at j 0 → Past met (getD col (link s (getD st j 0) k) 0)
-    -- the colours: cells on the path are those of colour 1
+    -- the colours: cells on the path are met, and are those of colour 1
+    pub met-all : (j : ℕ) → j < sp → getD col (getD st j 0) 0 ≡ 0 → ⊥
     pub colours : (c : ℕ) → getD col c 0 ≤ 2
     pub grey : (c : ℕ) → getD col c 0 ≡ 1 → (j : ℕ) × (j < sp) × (getD st j 0 ≡ c)
     pub room : sp + whites col ≤ limit
@@ -86,6 +87,7 @@ module _ {s col nexts ends : List ℕ} (t : Tables s col nexts ends) (root : ℕ
         path = λ j q. absurd (omega arith);
         small = λ j q. let z : j ≡ 0 = omega arith in rw (z, getD-set-same at 0 0 0 (omega arith)) (omega arith);
         gone = λ j q k m. absurd (let z : j ≡ 0 = omega arith in let y : k < 0 = rw (z, getD-set-same at 0 0 0 (omega arith)) at m in omega arith);
+        met-all = λ j q e. let z : j ≡ 0 = omega arith in let y : getD (set col root 1) root 0 ≡ 0 = rw (z, first) at e in let x = sym grey-root ∙ y in omega arith;
         colours = λ c. elim (ℕ-discrete c root) [ yes e ↦ rw (e, grey-root) (omega arith) | no e ↦ rw (other c e) (by c (t .colours c) .0) ];
         grey = λ c g. elim (ℕ-discrete c root) [ yes e ↦ (0, omega arith, first ∙ sym e) | no e ↦ absurd (by c (t .colours c) .1 (sym (other c e) ∙ g)) ];
         room = omega (arith, whites-lt col root 0 (omega arith) white, whites-all col);
@@ -188,6 +190,7 @@ module _ {s : List ℕ} {top root : ℕ} {col₀ col st at : List ℕ} {sp : ℕ
         path = w .path;
         small = λ i q. elim (ℕ-discrete i (sp - 1)) [ yes z ↦ rw (z, same) (omega arith) | no z ↦ rw (other i z) (w .small i q) ];
         gone = λ i q m b. elim (ℕ-discrete i (sp - 1)) [ yes z ↦ at-last i z m b same | no z ↦ up _ (w .gone i q m (rw (other i z) at b)) ];
+        met-all = w .met-all;
         colours = w .colours;
         grey = w .grey;
         room = w .room;
@@ -246,6 +249,7 @@ module _ {s : List ℕ} {top root : ℕ} {col₀ col st at : List ℕ} {sp : ℕ
         let grey : getD (set col c 1) c 0 ≡ 1 = getD-set-same col c 1 0 (omega arith) in
         let other : (d : ℕ) → (d ≡ c → ⊥) → getD (set col c 1) d 0 ≡ getD col d 0 = λ d n. getD-set-other col c d 1 0 n in
         let was : (d : ℕ) → Done (set col c 1) d → Done col d = λ d x. elim (ℕ-discrete d c) [ yes z ↦ absurd (let y = sym grey ∙ rw z at x in omega arith) | no z ↦ sym (other d z) ∙ x ] in
+        let still-met : (d : ℕ) → (getD col d 0 ≡ 0 → ⊥) → getD (set col c 1) d 0 ≡ 0 → ⊥ = λ d n e. elim (ℕ-discrete d c) [ yes z ↦ (let y = sym grey ∙ rw z at e in omega arith) | no z ↦ n (sym (other d z) ∙ e) ] in
         let still : (d : ℕ) → Done col d → Done (set col c 1) d = λ d x. other d (λ z. let y = sym white ∙ rw z at x in omega arith) ∙ x in
         record {
           col-long = length-set col c 1 ∙ lc;
@@ -256,6 +260,7 @@ module _ {s : List ℕ} {top root : ℕ} {col₀ col st at : List ℕ} {sp : ℕ
           path = λ i q. elim (ℕ-discrete i (sp - 1)) [ yes z ↦ path-new i z h new (old i (omega arith)) | no z ↦ rw (old i (omega arith), old (suc i) (omega arith)) (w .path i (omega arith)) ];
           small = λ i q. elim (ℕ-discrete i sp) [ yes z ↦ rw (z, getD-set-same at sp 0 0 (omega arith)) (omega arith) | no z ↦ rw (getD-set-other at sp i 0 0 z, old i (omega arith)) (w .small i (omega arith)) ];
           gone = λ i q k m. elim (ℕ-discrete i sp) [ yes z ↦ absurd (let y : k < 0 = rw (z, getD-set-same at sp 0 0 (omega arith)) at m in omega arith) | no z ↦ rw (old i (omega arith)) (past-push col c _ white (w .gone i (omega arith) k (rw (getD-set-other at sp i 0 0 z) at m))) ];
+          met-all = λ i q e. elim (ℕ-discrete i sp) [ yes z ↦ (let y : getD (set col c 1) c 0 ≡ 0 = rw (z, new) at e in let x = sym grey ∙ y in omega arith) | no z ↦ still-met (getD st i 0) (w .met-all i (omega arith)) (rw (old i (omega arith)) at e) ];
           colours = λ d. elim (ℕ-discrete d c) [ yes z ↦ rw (z, grey) (omega arith) | no z ↦ rw (other d z) (w .colours d) ];
           grey = λ d y. elim (ℕ-discrete d c) [ yes z ↦ (sp, omega arith, new ∙ sym z) | no z ↦ keep d (w .grey d (sym (other d z) ∙ y)) old ];
           room = omega arith;
@@ -300,6 +305,7 @@ module _ {s : List ℕ} {top root : ℕ} {col₀ col st at : List ℕ} {sp : ℕ
         path = λ m q. w .path m (omega arith);
         small = λ m q. w .small m (omega arith);
         gone = λ m q k g. past-pop col i _ (omega arith) (w .gone m (omega arith) k g);
+        met-all = λ m q e. elim (ℕ-discrete (getD st m 0) i) [ yes z ↦ (let x = sym same ∙ rw z at e in omega arith) | no z ↦ w .met-all m (omega arith) (sym (other (getD st m 0) z) ∙ e) ];
         colours = λ c. elim (ℕ-discrete c i) [ yes z ↦ rw (z, same) (omega arith) | no z ↦ rw (other c z) (w .colours c) ];
         grey = λ c g. elim (ℕ-discrete c i) [ yes z ↦ absurd (let x = sym same ∙ rw z at g in omega arith) | no z ↦ keep c z (w .grey c (sym (other c z) ∙ g)) ];
         room = omega arith;

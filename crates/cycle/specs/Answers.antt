@@ -1,24 +1,27 @@
--- From the tables of a walk to the answers: the verdict, and the marks that a copy's room is counted by.
+-- From the tables of a walk to the answers: the verdict, the marks that a copy's room is counted by, and the links that are enough for it.
 use mathlib.Core.Path.{_≡_, refl, sym, ap, subst, _∙_}
-use mathlib.Core.Bool.{Bool, true, false, _&&_}
+use mathlib.Core.Bool.{Bool, true, false, cond, _&&_}
 use mathlib.Core.List.{List}
 use mathlib.Core.Logic.{_⊎_, inl, inr, ⊎-elim}
-use Prim.Native.Nat.{ℕ, _<_, _≤_}
+use Prim.Native.Nat.{ℕ, _+_, _<_, _≤_}
 use native.Mathlib.Omega.{arith}
 use lib.Dec.{eqb}
 use lib.ListN.{getD, replicate}
-use borrow.Author.Tests.{eqb-true, eqb-false}
+use borrow.Author.Tests.{eqb-true, eqb-false, eq-eqb, ne-eqb}
 use Rattle.cell.specs.declared.Kind.the-variants.{Str, Atom}
+use Rattle.cell.specs.Kinds.{byTag, kindOf}
 use Rattle.store.specs.Store.{limit, kindAt, termAt, WellFormed}
 use Rattle.store.specs.Steps.{term-used}
 use Rattle.cycle.specs.Graph.{Reach, Reaches, here, Accessible, no-cycle}
-use Rattle.cycle.specs.Some.{someBelow}
-use Rattle.cycle.specs.Kids.{headKind, head, pairKind, pair, str-atom}
-use Rattle.cycle.specs.Links.{Link, acc-edges, acc-links, reach-links, links-reach}
+use Rattle.cycle.specs.Some.{someBelow, some-true}
+use Rattle.cycle.specs.Kids.{arityAt, headKind, head, pairKind, pair, str-atom}
+use Rattle.cycle.specs.Links.{links, Link, link-str, acc-edges, acc-links, reach-links, links-reach}
 use Rattle.cycle.specs.Verdict.{cyclicAt}
 use Rattle.cycle.specs.Cyclic.{false-acc, acc-false}
-use Rattle.cycle.specs.Room.{reaches, strReached, lisReached, roomBy, roomOf, room-same, marked}
-use Rattle.cycle.specs.Reached.{found, finds, reach-used}
+use Rattle.cycle.specs.Room.{reaches, strReached, lisReached, runRoom, roomBy, roomOf, room-same, marked}
+use Rattle.cycle.specs.Reached.{found, finds, reach-used, true-str}
+use Rattle.cycle.specs.Bound.{named, room-le}
+use Rattle.cycle.specs.Met.{ifMet, ifNamed, metLinks, met-none, met-cover}
 use Rattle.cycle.specs.Tables.{Done, Names, Walked, none-done}
 
 module _ {s : List ℕ} {top root : ℕ} {col₀ col nexts ends : List ℕ} {met : Bool} (wf : WellFormed s top) (t : termAt s top root ≡ true) (w : Walked s root col₀ col nexts ends met) where
@@ -65,3 +68,50 @@ module _ {s : List ℕ} {top root : ℕ} {col₀ col nexts ends : List ℕ} {met
         e ∙ room-same s top (marked heads) (marked pairs) (strReached s top root) (lisReached s top root)
         (names-found (head s) (λ x n a q. ap headKind q) heads n)
         (names-found (pair s) (λ x n a q. ap pairKind q) pairs m)
+
+    -- ---- the links gone over are enough
+    coloured : (x : ℕ) → Reach s root x → eqb (getD col x 0) 0 ≡ false
+    coloured x r = let d = w .reached x (reach-links s r) in ne-eqb (getD col x 0) 0 (λ z. omega arith)
+
+    -- a cell that is reached, and that names f by g, is met
+    still-named : (g : ℕ → ℕ) (f : ℕ) → someBelow top (λ x. reaches s top root x && eqb (g x) f) ≡ true → named (λ x. ifMet col x (g x)) top f ≡ true
+    still-named g f e =
+        let u = term-used s top root t in
+        let x = found s top wf root (u .0) (u .1) g f e in
+        some-true (λ x. eqb (ifMet col x (g x)) f) top (x .0) (reach-used s top wf (u .0) (u .1) (x .1) .1) (rw (coloured (x .0) (x .1)) (eq-eqb (g (x .0)) f (x .2)))
+
+    -- and so is the functor cell of a Str that is reached
+    head-met : (f : ℕ) → 1 ≤ f → strReached s top root f ≡ true → eqb (getD col f 0) 0 ≡ false
+    head-met f l e =
+        let u = term-used s top root t in
+        let x = true-str s top wf root (u .0) (u .1) f l e in
+        let d = w .tables .closed (x .0) f (w .reached (x .0) (reach-links s (x .1))) (link-str s (x .0) f (x .2)) in
+        ne-eqb (getD col f 0) 0 (λ z. omega arith)
+
+    need : (f : ℕ) → 1 ≤ f → runRoom (strReached s top root f) (lisReached s top root f) (arityAt s f) ≤ ifMet col f (arityAt s f) + (cond (named (λ x. ifMet col x (head s x)) top f) (ifNamed 1 f) 0 + cond (named (λ x. ifMet col x (pair s x)) top f) (ifNamed 2 f) 0)
+    unfolding runRoom strReached lisReached
+    need f l = rw (ne-eqb f 0 (λ z. omega arith)) (let a = one (strReached s top root f) refl in let b = two (lisReached s top root f) refl in omega arith)
+      where
+        one : (b : Bool) → strReached s top root f ≡ b → cond b (1 + arityAt s f) 0 ≤ ifMet col f (arityAt s f) + cond (named (λ x. ifMet col x (head s x)) top f) 1 0
+        one true e = rw (head-met f l e, still-named (head s) f e) (omega arith)
+        one false e = omega arith
+
+        two : (b : Bool) → lisReached s top root f ≡ b → cond b 2 0 ≤ cond (named (λ x. ifMet col x (pair s x)) top f) 2 0
+        two true e = rw (still-named (pair s) f e) (omega arith)
+        two false e = omega arith
+
+    -- a copy needs no more room than 1 and the links of the cells that were met
+    pub walked-enough : (n : ℕ) → metLinks s top col ≡ metLinks s top col₀ + n → roomOf s top root ≤ 1 + n
+    unfolding roomOf metLinks head headKind pair pairKind kindOf byTag
+    walked-enough n passed =
+        let none = met-none s top col₀ zeros in
+        let r = room-le s top wf (strReached s top root) (lisReached s top root) (λ f. ifMet col f (arityAt s f)) (ifNamed 1) (ifNamed 2) (λ x. ifMet col x (head s x)) (λ x. ifMet col x (pair s x)) (λ c. ifMet col c (links s c))
+        need
+        (nothing 1 (eqb (getD col 0 0) 0) (ap (λ (v : ℕ). headKind (kindOf v)) (wf .zeroth)))
+        (nothing 2 (eqb (getD col 0 0) 0) (ap (λ (v : ℕ). pairKind (kindOf v)) (wf .zeroth)))
+        (met-cover s col) in
+        omega arith
+      where
+        nothing : (m : ℕ) (b : Bool) {x : ℕ} → x ≡ 0 → ifNamed m (cond b 0 x) ≡ 0
+        nothing m true e = refl
+        nothing m false e = rw e

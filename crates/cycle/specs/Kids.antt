@@ -9,7 +9,7 @@ use borrow.Author.Tests.{eq-eqb, ne-eqb, ltb-true, leb-true, lt-ltb, le-leb}
 use Rattle.cell.specs.declared.Kind.{Kind}
 use Rattle.cell.specs.declared.Kind.the-variants.{Var, Str, Lis, Atom, Fixnum, Bad}
 use Rattle.store.specs.All.{allFrom, all-holds}
-use Rattle.store.specs.Store.{kindAt, isAtom, noHeader, termAt, atomAt, runAt, keeps, WellFormed}
+use Rattle.store.specs.Store.{kindAt, isHeader, isAtom, noHeader, termAt, atomAt, runAt, keeps, WellFormed}
 use Rattle.store.specs.Steps.{term-used}
 use Rattle.cycle.specs.Graph.{Edge, bound, arg, first, second, Acc, acc}
 
@@ -21,6 +21,16 @@ arityKind (Lis v) = 0
 arityKind (Atom n a) = a
 arityKind (Fixnum z) = 0
 arityKind Bad = 0
+
+-- an Atom with arguments is a header, and nothing else is
+pub header-arity : (k : Kind) → isHeader k ≡ ltb 0 (arityKind k)
+unfolding isHeader arityKind
+header-arity (Var v) = refl
+header-arity (Str v) = refl
+header-arity (Lis v) = refl
+header-arity (Atom n a) = refl
+header-arity (Fixnum z) = refl
+header-arity Bad = refl
 
 -- how many cells stand behind the cell at f
 unfoldable pub arityAt : List ℕ → ℕ → ℕ

@@ -6,8 +6,10 @@ pub mod Kids
 pub mod Links
 pub mod Verdict
 pub mod Room
+pub mod Bound
 pub mod Most
 pub mod Tables
+pub mod Met
 pub mod Counted
 -- Laws of them.
 pub mod Ways

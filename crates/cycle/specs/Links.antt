@@ -3,16 +3,16 @@ use mathlib.Core.Path.{_≡_, refl, sym, ap, _∙_}
 use mathlib.Core.Bool.{Bool, true, false, cond, not, _&&_, and-eq-true-iff, false≢true}
 use mathlib.Core.List.{List}
 use mathlib.Core.Logic.{_⊎_, inl, inr, ⊎-elim}
-use Prim.Native.Nat.{ℕ, zero, suc, _+_, _<_, _≤_}
+use Prim.Native.Nat.{ℕ, _+_, _<_, _≤_}
 use native.Mathlib.Omega.{arith}
 use lib.Dec.{eqb, leb, ltb}
-use borrow.Author.Tests.{eq-eqb, ne-eqb, lt-ltb}
+use borrow.Author.Tests.{eq-eqb, ne-eqb, ltb-false}
 use Rattle.cell.specs.declared.Kind.{Kind}
 use Rattle.cell.specs.declared.Kind.the-variants.{Var, Str, Lis, Atom, Fixnum, Bad}
 use Rattle.store.specs.Store.{kindAt, isHeader, noHeader, termAt, keeps, WellFormed}
 use Rattle.store.specs.Steps.{term-used}
 use Rattle.cycle.specs.Graph.{Edge, bound, arg, first, second, Reaches, here, over, Reach, Accessible, acc, Acc, join, one, spread, acc-ind}
-use Rattle.cycle.specs.Kids.{arityKind, arityAt, pair-edge, edge-kid, kid-term, run-used, str-used, str-atom, lis-terms, atom-arity}
+use Rattle.cycle.specs.Kids.{arityKind, header-arity, arityAt, pair-edge, edge-kid, kid-term, run-used, str-used, str-atom, lis-terms, atom-arity}
 
 unfoldable pub linksKind : ℕ → Kind → ℕ
 linksKind i (Var v) = cond (eqb v i) 0 1
@@ -125,7 +125,7 @@ module _ (s : List ℕ) (i : ℕ) where
   unfolding links linksKind link linkKind
   link-var v e n = (0, rw (e, ne-eqb v i n) (omega arith), rw e)
 
-  link-str : (f : ℕ) → kindAt s i ≡ Str f → Link s i f
+  pub link-str : (f : ℕ) → kindAt s i ≡ Str f → Link s i f
   unfolding links linksKind link linkKind
   link-str f e = (0, rw e (omega arith), rw e)
 
@@ -180,14 +180,11 @@ module _ (s : List ℕ) where
 
 -- ---- from edges to links, for cells that stand for terms
 no-arguments : (k : Kind) → not (isHeader k) ≡ true → arityKind k ≡ 0
-unfolding isHeader arityKind
-no-arguments (Var v) h = refl
-no-arguments (Str v) h = refl
-no-arguments (Lis v) h = refl
-no-arguments (Atom n zero) h = refl
-no-arguments (Atom n (suc a)) h = absurd (false≢true (sym (ap not (lt-ltb 0 (suc a) (omega arith))) ∙ h))
-no-arguments (Fixnum z) h = refl
-no-arguments Bad h = refl
+no-arguments k h = let n = ltb-false 0 (arityKind k) (sym (header-arity k) ∙ not-true (isHeader k) h) in omega arith
+  where
+    not-true : (b : Bool) → not b ≡ true → b ≡ false
+    not-true true e = absurd (false≢true e)
+    not-true false e = refl
 
 module _ (s : List ℕ) (top : ℕ) (wf : WellFormed s top) where
   term-edge : (i j : ℕ) → termAt s top i ≡ true → Edge s i j → termAt s top j ≡ true

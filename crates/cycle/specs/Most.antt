@@ -1,8 +1,8 @@
 -- A bound on the room of a copy that takes no walk. A structure of arity 1 or more is counted at its functor cell, one of arity 0 at each Str that names it, and a pair at each Lis that names it; so none that a root reaches is left out.
-use mathlib.Core.Path.{_≡_, refl, sym, ap, _∙_}
+use mathlib.Core.Path.{_≡_, refl, sym, ap}
 use mathlib.Core.Bool.{Bool, true, false, cond, _&&_, and-eq-true-iff}
 use mathlib.Core.List.{List}
-use Prim.Native.Nat.{ℕ, zero, suc, _+_, _-_, _<_, _≤_}
+use Prim.Native.Nat.{ℕ, _+_, _-_, _<_, _≤_}
 use native.Mathlib.Omega.{arith}
 use native.Mathlib.Decide.{ℕ-discrete}
 use lib.Dec.{eqb, leb}
@@ -12,9 +12,10 @@ use Rattle.cell.specs.declared.Kind.the-variants.{Var, Str, Lis, Atom, Fixnum, 
 use Rattle.cell.specs.Kinds.{byTag, kindOf}
 use Rattle.store.specs.Store.{kindAt, WellFormed}
 use Rattle.cycle.specs.Some.{someBelow, some-true, some-holds}
-use Rattle.cycle.specs.Sum.{sumFrom, sum-done, sum-goes, sum-le, sum-once, sum-add, sum-last}
+use Rattle.cycle.specs.Sum.{sumFrom, sum-done, sum-goes}
 use Rattle.cycle.specs.Kids.{arityKind, arityAt, headKind, head, pairKind, pair}
-use Rattle.cycle.specs.Room.{reaches, strReached, lisReached, runRoom, roomFrom, roomBy, roomOf}
+use Rattle.cycle.specs.Room.{reaches, strReached, lisReached, runRoom, roomOf}
+use Rattle.cycle.specs.Bound.{named, room-le}
 
 unfoldable pub ownKind : List ℕ → Kind → ℕ
 ownKind s (Var v) = 0
@@ -49,30 +50,7 @@ module _ (s : List ℕ) (top free sum i : ℕ) (so : mostRoom s top ≡ sum + ow
   unfolding ownFrom
   own-done h = let g = sum-done (ownRoom s) i h in let e : sum ≡ mostRoom s top = omega arith in ap (λ (n : ℕ). leb n free) e
 
--- ---- what is named is counted at most once for each cell that names it
--- some of the first n names f
-abbrev named : (ℕ → ℕ) → ℕ → ℕ → Bool
-named g n f = someBelow n (λ x. eqb (g x) f)
-
-named-le : (g w : ℕ → ℕ) (m n : ℕ) → sumFrom 1 m (λ f. cond (named g n f) (w f) 0) ≤ sumFrom 0 n (λ x. w (g x))
-unfolding someBelow sumFrom
-named-le g w m zero = none m 1
-  where
-    none : (n from : ℕ) → sumFrom from n (λ f. 0) ≤ 0
-    none zero from = omega arith
-    none (suc n) from = let r = none n (suc from) in omega arith
-named-le g w m (suc n) =
-    let r = named-le g w m n in
-    let l = sum-last (λ x. w (g x)) n 0 in
-    let z : 0 + n ≡ n = omega arith in
-    let o = sum-once (λ f. cond (named g n f) (w f) 0) (λ f. cond (named g (suc n) f) (w f) 0) (g n) (w (g n)) m 1 (at (named g (suc n) (g n))) (λ k d. rw (ne-eqb (g n) k (λ e. d (sym e))) (omega arith)) in
-    let y : w (g (0 + n)) ≡ w (g n) = ap (λ (k : ℕ). w (g k)) z in
-    omega arith
-  where
-    at : (b : Bool) → cond b (w (g n)) 0 ≤ cond (named g n (g n)) (w (g n)) 0 + w (g n)
-    at true = omega arith
-    at false = omega arith
-
+-- ---- it is enough
 module _ (s : List ℕ) where
   -- by what is counted at the functor cell itself, at a Str that names f, and at a Lis that names f
   abbrev self : ℕ → ℕ
@@ -118,32 +96,12 @@ module _ (s : List ℕ) where
         let t = some-holds (λ x. reaches s top root x && eqb (g x) f) top e in
         some-true (λ x. eqb (g x) f) top (t .0) (t .1) (and-eq-true-iff (reaches s top root (t .0)) (eqb (g (t .0)) f) .0 (t .2) .1)
 
-    -- cell 0 names nothing
-    from-one : (w g : ℕ → ℕ) → w (g 0) ≡ 0 → sumFrom 0 top (λ x. w (g x)) ≡ sumFrom 1 (top - 1) (λ x. w (g x))
-    unfolding sumFrom
-    from-one w g e =
-        let l = wf .low in
-        let z : top ≡ suc (top - 1) = omega arith in
-        ap (λ (n : ℕ). sumFrom 0 n (λ x. w (g x))) z ∙ omega arith
-
     -- no copy needs more
     pub most-enough : roomOf s top root ≤ mostRoom s top
-    unfolding roomOf roomBy roomFrom strReached lisReached mostRoom ownFrom head headKind pair pairKind kindOf byTag
+    unfolding roomOf strReached lisReached mostRoom ownFrom head headKind pair pairKind kindOf byTag
     most-enough =
-        let n = top - 1 in
-        let str = strReached s top root in
-        let lis = lisReached s top root in
-        let by-str : ℕ → ℕ = λ f. cond (named (head s) top f) (bare f) 0 in
-        let by-lis : ℕ → ℕ = λ f. cond (named (pair s) top f) (both f) 0 in
-        let a = sum-le (λ f. runRoom (str f) (lis f) (arityAt s f)) (λ f. self f + (by-str f + by-lis f)) n 1
-        (λ f l h. let c = counted (str f) (lis f) (named (head s) top f) (named (pair s) top f) (arityAt s f) (some-name (head s) f) (some-name (pair s) f) in rw (ne-eqb f 0 (λ z. omega arith)) c) in
-        let b = sum-add self (λ f. by-str f + by-lis f) n 1 in
-        let c = sum-add by-str by-lis n 1 in
-        let d = named-le (head s) bare n top in
-        let e = named-le (pair s) both n top in
-        let f = from-one bare (head s) (ap (λ (w : ℕ). bare (headKind (kindOf w))) (wf .zeroth)) in
-        let g = from-one both (pair s) (ap (λ (w : ℕ). both (pairKind (kindOf w))) (wf .zeroth)) in
-        let h = sum-add (λ x. bare (head s x)) (λ x. both (pair s x)) n 1 in
-        let i = sum-add self (λ x. bare (head s x) + both (pair s x)) n 1 in
-        let j = sum-le (λ x. self x + (bare (head s x) + both (pair s x))) (ownRoom s) n 1 (λ k _ _. at-cell k) in
-        omega arith
+        room-le s top wf (strReached s top root) (lisReached s top root) self bare both (head s) (pair s) (ownRoom s)
+        (λ f l. rw (ne-eqb f 0 (λ z. omega arith)) (counted (strReached s top root f) (lisReached s top root f) (named (head s) top f) (named (pair s) top f) (arityAt s f) (some-name (head s) f) (some-name (pair s) f)))
+        (ap (λ (w : ℕ). bare (headKind (kindOf w))) (wf .zeroth))
+        (ap (λ (w : ℕ). both (pairKind (kindOf w))) (wf .zeroth))
+        at-cell

@@ -2,9 +2,9 @@
 // well-formed store gives: whether either of two roots reaches a cycle, and the room of a copy.
 ghost use mathlib.Core.Path.{_≡_};
 ghost use mathlib.Core.Bool.{true, _||_};
-ghost use Prim.Native.Nat.{ℕ, _+_, _-_, _<_, _≤_};
+ghost use Prim.Native.Nat.{_+_, _-_, _<_, _≤_};
 ghost use lib.Dec.{leb};
-ghost use lib.ListN.{length, replicate};
+ghost use lib.ListN.{length, getD, replicate};
 ghost use Rattle.store.specs.Store.{limit, termAt, WellFormed};
 ghost use Rattle.cycle.specs.Kids.{arityAt, head, pair};
 ghost use Rattle.cycle.specs.Links.{Span};
@@ -13,6 +13,7 @@ ghost use Rattle.cycle.specs.Room.{roomBy, roomOf, marked};
 ghost use Rattle.cycle.specs.Most.{ownRoom, mostRoom};
 ghost use Rattle.cycle.specs.Counted.{Counted};
 ghost use Rattle.cycle.specs.Tables.{Names, Tables, Walked};
+ghost use Rattle.cycle.specs.Met.{metLinks};
 use cell::Kind;
 use cell::Refusal;
 use store::LIMIT;
@@ -74,10 +75,16 @@ fn links_of(cells: &[u64], top: usize, i: usize) -> Links
     }
 }
 
-// Walks all that the root reaches, and answers whether it came to a cell on its own path. It goes
-// on after that, so that the finished cells are exactly those reached, and tables may be used again.
-// The path is kept as the links that are left at the cell before each of its cells, the link to it
-// just gone over; the root has none before it.
+// What a walk saw: whether it came to a cell on its own path, and how many links it went over.
+struct Seen {
+    cycle: bool,
+    links: usize,
+}
+
+// Walks all that the root reaches; the root itself was not met before. It goes on after it came to
+// a cell on its own path, so that the finished cells are exactly those reached, and tables may be
+// used again. The path is kept as the links that are left at the cell before each of its cells, the
+// link to it just gone over; the root has none before it.
 fn walk(
     cells: &[u64],
     top: usize,
@@ -85,19 +92,17 @@ fn walk(
     col: &mut [u8; LIMIT],
     nexts: &mut [u16; LIMIT],
     ends: &mut [u16; LIMIT],
-) -> bool
-    requires { ⌜ WellFormed (now cells) top × (1 ≤ root) × (root < top) × Tables (now cells) (now col) (now nexts) (now ends) ⌝ }
-    ensures { λ r. ⌜ Walked (now (cells .entry)) root (now (col .entry)) (now (col .exit)) (now (nexts .exit)) (now (ends .exit)) r ⌝ }
+) -> Seen
+    requires { ⌜ WellFormed (now cells) top × (1 ≤ root) × (root < top) × Tables (now cells) (now col) (now nexts) (now ends) × (getD (now col) root 0 ≡ 0) ⌝ }
+    ensures { λ r. ⌜ Walked (now (cells .entry)) root (now (col .entry)) (now (col .exit)) (now (nexts .exit)) (now (ends .exit)) (r .cycle) × (metLinks (now (cells .entry)) top (now (col .exit)) ≡ metLinks (now (cells .entry)) top (now (col .entry)) + r .links) ⌝ }
 {
-    if col[root] != 0 {
-        return false;
-    }
     col[root] = 1;
     nexts[0] = (root + 1) as u16;
     ends[0] = (root + 1) as u16;
     let mut sp: usize = 1;
     let mut met = false;
     let first = links_of(cells, top, root);
+    let mut links = first.end - first.next;
     let mut next = first.next;
     let mut end = first.end;
     while 0 < sp {
@@ -110,6 +115,7 @@ fn walk(
                     nexts[sp] = (next + 1) as u16;
                     ends[sp] = end as u16;
                     sp += 1;
+                    links += below.end - below.next;
                     next = below.next;
                     end = below.end;
                 }
@@ -126,7 +132,7 @@ fn walk(
             col[next - 1] = 2;
         }
     }
-    met
+    Seen { cycle: met, links }
 }
 
 // Whether the root reaches a cycle.
@@ -137,7 +143,8 @@ pub fn cyclic(cells: &[u64], top: usize, root: usize) -> bool
     let mut col = [0u8; LIMIT];
     let mut nexts = [0u16; LIMIT];
     let mut ends = [0u16; LIMIT];
-    walk(cells, top, root, &mut col, &mut nexts, &mut ends)
+    let seen = walk(cells, top, root, &mut col, &mut nexts, &mut ends);
+    seen.cycle
 }
 
 // Whether one of two roots reaches a cycle; what the first reaches is not walked again.
@@ -148,10 +155,15 @@ pub fn either_cyclic(cells: &[u64], top: usize, a: usize, b: usize) -> bool
     let mut col = [0u8; LIMIT];
     let mut nexts = [0u16; LIMIT];
     let mut ends = [0u16; LIMIT];
-    if walk(cells, top, a, &mut col, &mut nexts, &mut ends) {
+    let first = walk(cells, top, a, &mut col, &mut nexts, &mut ends);
+    if first.cycle {
         return true;
     }
-    walk(cells, top, b, &mut col, &mut nexts, &mut ends)
+    if col[b] != 0 {
+        return false;
+    }
+    let second = walk(cells, top, b, &mut col, &mut nexts, &mut ends);
+    second.cycle
 }
 
 // The cycle verdict: whether the root reaches a cycle; refusals 1 and 3.
@@ -222,19 +234,23 @@ fn count_runs(
     sum
 }
 
-// The room that a copy of the root's term needs: 1, plus 1 + arity for each structure reached, plus
-// 2 for each pair.
-pub fn room(cells: &[u64], top: usize, root: usize) -> usize
+// Whether the room that a copy of the root's term needs is at most `free`: 1, plus 1 + arity for each
+// structure reached, plus 2 for each pair. It is at most 1 and the links that the walk goes over, so
+// the runs are counted only where these are too many.
+pub fn room_within(cells: &[u64], top: usize, root: usize, free: usize) -> bool
     requires { ⌜ WellFormed (now cells) top × (termAt (now cells) top root ≡ true) ⌝ }
-    ensures { λ r. ⌜ r ≡ roomOf (now (cells .entry)) top root ⌝ }
+    ensures { λ r. ⌜ r ≡ leb (roomOf (now (cells .entry)) top root) free ⌝ }
 {
     let mut col = [0u8; LIMIT];
     let mut nexts = [0u16; LIMIT];
     let mut ends = [0u16; LIMIT];
+    let seen = walk(cells, top, root, &mut col, &mut nexts, &mut ends);
+    if seen.links < free {
+        return true;
+    }
     let mut heads = [0u8; LIMIT];
     let mut pairs = [0u8; LIMIT];
-    walk(cells, top, root, &mut col, &mut nexts, &mut ends);
-    count_runs(cells, top, &col, &mut heads, &mut pairs)
+    count_runs(cells, top, &col, &mut heads, &mut pairs) <= free
 }
 
 // The room that is counted at one cell, for the most that a copy can need: at a functor cell that of
@@ -244,7 +260,7 @@ fn own_room(cells: &[u64], top: usize, i: usize) -> usize
     ensures { λ r. ⌜ (r ≡ ownRoom (now (cells .entry)) i) × (r ≤ limit) ⌝ }
 {
     match store::kind_at(cells, i) {
-        Kind::Str(f) => { if arity_at(cells, f) == 0 { 1 } else { 0 } }
+        Kind::Str(f) => { if store::header_at(cells, f) { 0 } else { 1 } }
         Kind::Lis(_) => 2,
         Kind::Atom { name: _, arity } => { if arity == 0 { 0 } else { arity + 1 } }
         _ => 0,

@@ -43,7 +43,8 @@ pub fn kind_at(cells: &[u64], i: usize) -> Kind
     c.kind
 }
 
-fn header_at(cells: &[u64], i: usize) -> bool
+// Whether a cell is a header: an Atom of arity above 0.
+pub fn header_at(cells: &[u64], i: usize) -> bool
     requires { ⌜ i < length (now cells) ⌝ }
     ensures { λ r. ⌜ r ≡ headerAt (now (cells .entry)) i ⌝ }
 {

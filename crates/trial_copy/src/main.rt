@@ -92,6 +92,10 @@ fn rooms() {
     copy_at(b"just enough cells: ", &mut exact, 4, 1);
     let mut short = [0, STR + 2, G_1, VAR + 3, 0, 0];
     copy_at(b"one cell short: ", &mut short, 4, 1);
+    let mut full = [0, STR + 2, G_1, VAR + 3, A, A, A, 0, 0, 0];
+    copy_at(b"just enough in a store nearly full: ", &mut full, 7, 1);
+    let mut shared = [0, STR + 2, F_2, LIS + 5, LIS + 5, A, NIL, 0, 0, 0, 0, 0];
+    copy_at(b"a shared pair, one cell short: ", &mut shared, 7, 1);
     let mut cells = [0, STR + 2, G_1, VAR + 3, 0, 0, 0];
     let mut enough = [7u64; 48];
     copy_in(b"just enough work words: ", &mut cells, 4, &mut enough, 1);

@@ -3,7 +3,6 @@ use borrow.Author.Needs.{needs}
 use native.Mathlib.Omega.{arith}
 use mathlib.Core.Path.{sym, _∙_}
 use Prim.Native.Nat.{_+_, _<_, _≤_}
-use denote.Ref.{now}
 use Rattle.store.specs.Store.{limit}
 use Rattle.store.specs.Steps.{term-used}
 use Rattle.cycle.specs.Kids.{run-used, str-used, lis-terms}

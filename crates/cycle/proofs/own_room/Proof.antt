@@ -27,8 +27,8 @@ kind-at-requires c κs = let w = c .before .pre .0 in omega arith
 enum-known-f : tie.Need-enum-known-f
 enum-known-f c = search needs
 
-arity-at-requires : tie.Need-arity-at-requires
-arity-at-requires c κs =
+header-at-requires : tie.Need-header-at-requires
+header-at-requires c κs =
     let k = c .before .before .before in
     let p = k .before .before .pre in
     let w = p .0 .room in
@@ -46,12 +46,12 @@ add-result c = let r = short c in omega arith
 returns : tie.Need-returns
 returns c =
     let d = c .before .before .before in
-    (own-bare _ _ _ (d .before .before .kind-at .ensures) _ (d .f .given .1) _ (c .before .arity-at .ensures) (c .if1 .taken), omega arith)
+    (own-held _ _ _ (d .before .before .kind-at .ensures) _ (d .f .given .1) (c .before .header-at .ensures) (c .if1 .taken), omega arith)
 
 returns-2 : tie.Need-returns-2
 returns-2 c =
     let d = c .before .before .before in
-    (own-held _ _ _ (d .before .before .kind-at .ensures) _ (d .f .given .1) _ (c .before .arity-at .ensures) (c .if1 .left), omega arith)
+    (own-bare _ _ _ (d .before .before .kind-at .ensures) _ (d .f .given .1) (c .before .header-at .ensures) (c .if1 .left), omega arith)
 
 returns-3 : tie.Need-returns-3
 returns-3 c = (own-pair _ _ _ (c .before .before .kind-at .ensures) _ (c .enum-told .given .1), omega arith)
@@ -75,7 +75,7 @@ own-room-spec =
     (tie.spec
     kind-at-requires
     enum-known-f
-    arity-at-requires
+    header-at-requires
     enum-told
     enum-known-arity
     add-result

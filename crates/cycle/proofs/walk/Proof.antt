@@ -6,27 +6,27 @@ use borrow.Author.Needs.{needs}
 use denote.Ref.{now}
 use lib.ListN.{getD}
 use Rattle.store.specs.Store.{limit, WellFormed}
-use Rattle.cycle.proofs.Walking.{landed, room-for, walked-before, from-start}
-use Rattle.cycle.proofs.Going.{Going, left, started, inside, taken, over-done, over-back, down, less-down, up, less-up, ended}
+use Rattle.cycle.proofs.Walking.{landed, room-for, from-start}
+use Rattle.cycle.proofs.Going.{Going, left, started, summed-all, inside, taken, over-done, over-back, down, less-down, up, less-up, ended}
 use Rattle.cycle.proofs.walk.Statement.{statement}
 use Rattle.cycle.proofs.walk.Tie as tie
 
 abbrev Inv-loop : tie.InvT-loop
-Inv-loop cells top root col₀ nexts₀ ends₀ sp₀ met₀ next₀ end₀ col nexts ends sp met next end = Going cells top root col₀ col nexts ends sp next end met
+Inv-loop cells top root col₀ nexts₀ ends₀ sp₀ met₀ links₀ next₀ end₀ col nexts ends sp met links next end = Going cells top root col₀ links₀ col nexts ends sp next end met links
 
 abbrev μ-loop : tie.MeasureT-loop
-μ-loop cells top root col₀ nexts₀ ends₀ sp₀ met₀ next₀ end₀ col nexts ends sp met next end = left col nexts ends sp next end
+μ-loop cells top root col₀ nexts₀ ends₀ sp₀ met₀ links₀ next₀ end₀ col nexts ends sp met links next end = left col nexts ends sp next end
 
 -- in a turn
-formed : (c : tie.In-loop Inv-loop μ-loop) → let a = c .before .before .before .before .before .before .args in WellFormed (now (a .cells)) (a .top)
-formed c = c .before .before .before .before .before .before .pre .0
+formed : (c : tie.In-loop Inv-loop μ-loop) → let a = c .before .before .before .before .before .args in WellFormed (now (a .cells)) (a .top)
+formed c = c .before .before .before .before .before .pre .0
 
 -- the next link goes to a used cell
-lands : (c : tie.Then2 Inv-loop μ-loop) → let l = c .before .before .loop in (1 ≤ l .next) × (l .next < limit)
+lands : (c : tie.Then1 Inv-loop μ-loop) → let l = c .before .before .loop in (1 ≤ l .next) × (l .next < limit)
 lands c =
     let d = c .before in
     let w = formed d in
-    let u = landed (taken w (d .before .loop .inv) (d .loop-test .taken) (c .if2 .taken)) in
+    let u = landed (taken w (d .before .loop .inv) (d .loop-test .taken) (c .if1 .taken)) in
     let h = w .high in
     (u .0, omega arith)
 
@@ -37,10 +37,10 @@ deeper c =
     let d = e .before in
     let w = formed d in
     let i = inside w (d .before .loop .inv) (d .loop-test .taken) in
-    (room-for (taken w (d .before .loop .inv) (d .loop-test .taken) (e .if2 .taken)) (c .match .keys1), omega arith)
+    (room-for (taken w (d .before .loop .inv) (d .loop-test .taken) (e .if1 .taken)) (c .match .keys1), omega arith)
 
 -- the cell that is finished
-back-to : (c : tie.Else2 Inv-loop μ-loop) → let l = c .before .before .loop in let n = getD (l .nexts) (l .sp - 1) 0 in (1 ≤ n) × (n ≤ limit) × (getD (l .ends) (l .sp - 1) 0 ≤ limit) × (l .sp ≤ limit)
+back-to : (c : tie.Else1 Inv-loop μ-loop) → let l = c .before .before .loop in let n = getD (l .nexts) (l .sp - 1) 0 in (1 ≤ n) × (n ≤ limit) × (getD (l .ends) (l .sp - 1) 0 ≤ limit) × (l .sp ≤ limit)
 back-to c =
     let d = c .before in
     let l = d .before .loop in
@@ -56,41 +56,38 @@ back-to c =
 two : {x : ℕ} → x ≤ 2 → (x ≡ 0 → ⊥) → (x ≡ 1 → ⊥) → x ≡ 2
 two a b c = omega arith
 
-element-copy-out-if1 : tie.Need-element-copy-out-if1 Inv-loop μ-loop
-element-copy-out-if1 c = let h = c .before .pre .0 .high in omega arith
-
-returns : tie.Need-returns Inv-loop μ-loop
-returns c = walked-before _ (c .before .before .before .pre .3) (c .if1 .taken)
-
 element-write-col : tie.Need-element-write-col Inv-loop μ-loop
-element-write-col c = let h = c .before .before .before .pre .0 .high in omega arith
+element-write-col c = let h = c .before .pre .0 .high in omega arith
 
 add-nexts : tie.Need-add-nexts Inv-loop μ-loop
-add-nexts c = let h = c .before .before .before .pre .0 .high in omega arith
+add-nexts c = let h = c .before .pre .0 .high in omega arith
 
 cast-nexts : tie.Need-cast-nexts Inv-loop μ-loop
-cast-nexts c = let h = c .before .before .before .pre .0 .high in omega arith
+cast-nexts c = let h = c .before .pre .0 .high in omega arith
 
 element-write-nexts : tie.Need-element-write-nexts Inv-loop μ-loop
 element-write-nexts c = search needs
 
 add-ends : tie.Need-add-ends Inv-loop μ-loop
-add-ends c = let h = c .before .before .before .pre .0 .high in omega arith
+add-ends c = let h = c .before .pre .0 .high in omega arith
 
 cast-ends : tie.Need-cast-ends Inv-loop μ-loop
-cast-ends c = let h = c .before .before .before .pre .0 .high in omega arith
+cast-ends c = let h = c .before .pre .0 .high in omega arith
 
 element-write-ends : tie.Need-element-write-ends Inv-loop μ-loop
 element-write-ends c = search needs
 
 links-of-requires : tie.Need-links-of-requires Inv-loop μ-loop
-links-of-requires c κs = let p = c .before .before .before .pre in (p .0, p .1, p .2)
+links-of-requires c κs = let p = c .before .pre in (p .0, p .1, p .2)
+
+sub-links : tie.Need-sub-links Inv-loop μ-loop
+sub-links c = let s = c .before .links-of .ensures in let f = s .from in let e = s .to in omega arith
 
 loop-holds : tie.Need-loop-holds Inv-loop μ-loop
 loop-holds c =
-    let p = c .before .before .before .before .pre in
+    let p = c .before .before .before .pre in
     let h = p .0 .high in
-    started (p .3) _ (omega arith) (c .before .if1 .left) (p .1) (p .2) (c .links-of .ensures)
+    started (p .3) _ (omega arith) (p .4) (p .0) (p .1) (p .2) (c .before .links-of .ensures)
 
 element-copy-out-seen : tie.Need-element-copy-out-seen Inv-loop μ-loop
 element-copy-out-seen c = let u = lands c in let l = c .before .before .loop .inv .walking .col-long in omega arith
@@ -101,7 +98,7 @@ element-write-col-2 c = let u = lands (c .before .before) in let l = c .before .
 links-of-requires-2 : tie.Need-links-of-requires-2 Inv-loop μ-loop
 links-of-requires-2 c κs =
     let d = c .before .before .before in
-    let u = landed (taken (formed d) (d .before .loop .inv) (d .loop-test .taken) (c .before .before .if2 .taken)) in
+    let u = landed (taken (formed d) (d .before .loop .inv) (d .loop-test .taken) (c .before .before .if1 .taken)) in
     (formed d, u .0, u .1)
 
 add-nexts-2 : tie.Need-add-nexts-2 Inv-loop μ-loop
@@ -128,35 +125,47 @@ element-write-ends-2 c = let r = deeper (c .before) in let u = lands (c .before 
 add-sp : tie.Need-add-sp Inv-loop μ-loop
 add-sp c = let r = deeper (c .before) in let u = lands (c .before .before .before) in let g = c .before .before .before .before .before .loop .inv in omega arith
 
+sub-links-2 : tie.Need-sub-links-2 Inv-loop μ-loop
+sub-links-2 c = let s = c .before .links-of2 .ensures in let f = s .from in let e = s .to in omega arith
+
+-- each cell met adds less than the limit
+add-links : tie.Need-add-links Inv-loop μ-loop
+add-links c =
+    let e = c .before .before .before .before in
+    let d = e .before in
+    let g = down (formed d) (d .before .loop .inv) (d .loop-test .taken) (e .if1 .taken) (c .before .before .match .keys1) (c .before .links-of2 .ensures) in
+    let f = g .few in
+    omega arith
+
 loop-less : tie.Need-loop-less Inv-loop μ-loop
 loop-less c =
-    let e = c .before .before .before in
+    let e = c .before .before .before .before in
     let d = e .before in
-    less-down (formed d) (d .before .loop .inv) (d .loop-test .taken) (e .if2 .taken) (c .before .match .keys1) (c .links-of2 .ensures)
+    less-down (formed d) (d .before .loop .inv) (d .loop-test .taken) (e .if1 .taken) (c .before .before .match .keys1) (c .before .links-of2 .ensures)
 
 loop-again : tie.Need-loop-again Inv-loop μ-loop
 loop-again c =
-    let e = c .before .before .before in
+    let e = c .before .before .before .before in
     let d = e .before in
-    down (formed d) (d .before .loop .inv) (d .loop-test .taken) (e .if2 .taken) (c .before .match .keys1) (c .links-of2 .ensures)
+    down (formed d) (d .before .loop .inv) (d .loop-test .taken) (e .if1 .taken) (c .before .before .match .keys1) (c .before .links-of2 .ensures)
 
 add-next : tie.Need-add-next Inv-loop μ-loop
 add-next c = let u = lands (c .before .before) in omega arith
 
 loop-less-2 : tie.Need-loop-less-2 Inv-loop μ-loop
-loop-less-2 c = let t = c .before .before .if2 .taken in omega arith
+loop-less-2 c = let t = c .before .before .if1 .taken in omega arith
 
 loop-again-2 : tie.Need-loop-again-2 Inv-loop μ-loop
 loop-again-2 c =
     let e = c .before .before in
     let d = e .before in
-    over-back (formed d) (d .before .loop .inv) (d .loop-test .taken) (e .if2 .taken) (c .match .keys2)
+    over-back (formed d) (d .before .loop .inv) (d .loop-test .taken) (e .if1 .taken) (c .match .keys2)
 
 add-next-2 : tie.Need-add-next-2 Inv-loop μ-loop
 add-next-2 c = let u = lands (c .before .before) in omega arith
 
 loop-less-3 : tie.Need-loop-less-3 Inv-loop μ-loop
-loop-less-3 c = let t = c .before .before .if2 .taken in omega arith
+loop-less-3 c = let t = c .before .before .if1 .taken in omega arith
 
 loop-again-3 : tie.Need-loop-again-3 Inv-loop μ-loop
 loop-again-3 c =
@@ -164,7 +173,7 @@ loop-again-3 c =
     let d = e .before in
     let g = d .before .loop .inv in
     let r = c .match .rest in
-    over-done (formed d) g (d .loop-test .taken) (e .if2 .taken) (two (g .walking .colours _) (r .0 .1) (r .1))
+    over-done (formed d) g (d .loop-test .taken) (e .if1 .taken) (two (g .walking .colours _) (r .0 .1) (r .1))
 
 sub-sp : tie.Need-sub-sp Inv-loop μ-loop
 sub-sp c = omega arith
@@ -194,17 +203,18 @@ element-write-col-3 : tie.Need-element-write-col-3 Inv-loop μ-loop
 element-write-col-3 c = let r = back-to (c .before .before) in let l = c .before .before .before .before .loop .inv .walking .col-long in omega arith
 
 loop-less-4 : tie.Need-loop-less-4 Inv-loop μ-loop
-loop-less-4 c = let e = c .before .before in let d = e .before in less-up (formed d) (d .before .loop .inv) (d .loop-test .taken) (e .if2 .left)
+loop-less-4 c = let e = c .before .before in let d = e .before in less-up (formed d) (d .before .loop .inv) (d .loop-test .taken) (e .if1 .left)
 
 loop-again-4 : tie.Need-loop-again-4 Inv-loop μ-loop
-loop-again-4 c = let e = c .before .before in let d = e .before in up (formed d) (d .before .loop .inv) (d .loop-test .taken) (e .if2 .left)
+loop-again-4 c = let e = c .before .before in let d = e .before in up (formed d) (d .before .loop .inv) (d .loop-test .taken) (e .if1 .left)
 
-returns-2 : tie.Need-returns-2 Inv-loop μ-loop
-returns-2 c =
-    let d = c .before .before .before in
-    let p = d .before .before .before .pre in
+returns : tie.Need-returns Inv-loop μ-loop
+returns c =
+    let k = c .before .before .before in
+    let p = k .before .before .pre in
     let h = p .0 .high in
-    from-start (p .3) _ (omega arith) (d .if1 .left) (ended (c .before .loop .inv) (omega arith))
+    let g = c .before .loop .inv in
+    (from-start (p .3) _ (omega arith) (p .4) (ended g (omega arith)), summed-all (p .3) _ (omega arith) (p .4) _ _ (p .1) (p .2) (k .links-of .ensures) (g .summed))
 
 pub walk-spec : {M : Type 1} → statement M
 walk-spec =
@@ -212,8 +222,6 @@ walk-spec =
     (tie.spec
     Inv-loop
     μ-loop
-    element-copy-out-if1
-    returns
     element-write-col
     add-nexts
     cast-nexts
@@ -222,6 +230,7 @@ walk-spec =
     cast-ends
     element-write-ends
     links-of-requires
+    sub-links
     loop-holds
     element-copy-out-seen
     element-write-col-2
@@ -234,6 +243,8 @@ walk-spec =
     mul-ends
     element-write-ends-2
     add-sp
+    sub-links-2
+    add-links
     loop-less
     loop-again
     add-next
@@ -253,4 +264,4 @@ walk-spec =
     element-write-col-3
     loop-less-4
     loop-again-4
-    returns-2)
+    returns)
