@@ -19,9 +19,9 @@ module _ (s : List ℕ) (top root : ℕ) (col₀ : List ℕ) (sum₀ : ℕ) wher
     -- the cells of the path, and how many links of each are gone over
     pub st : List ℕ
     pub at : List ℕ
-    pub walking : Walking s top root col₀ col st at sp met
-    pub nexts-long : length nexts ≡ limit
-    pub ends-long : length ends ≡ limit
+    pub walking : Walking s top (length col₀) root col₀ col st at sp met
+    pub nexts-long : length nexts ≡ length col₀
+    pub ends-long : length ends ≡ length col₀
     pub cell : (j : ℕ) → j < sp → getD nexts j 0 ≡ getD st j 0 + 1
     pub used : (j : ℕ) → j < sp → getD ends j 0 ≤ top
     -- the link to the next cell of the path is gone over too
@@ -36,25 +36,30 @@ abbrev pub left : List ℕ → List ℕ → List ℕ → ℕ → ℕ → ℕ →
 left col nexts ends sp next end = (limit + 2) * whites col + frames nexts ends sp + (end - next)
 
 -- ---- the first cell on the path
-module _ {s col nexts ends : List ℕ} (t : Tables s col nexts ends) (root : ℕ) (b : root < limit) (white : getD col root 0 ≡ 0) where
-  pub started : {top next end : ℕ} → WellFormed s top → 1 ≤ root → root < top → Span s root 0 next end → Going s top root (set col root 1) (end - next) (set col root 1) (set nexts 0 (root + 1)) (set ends 0 (root + 1)) 1 next end false (end - next)
-  started {top} wf l h p =
+module _ {s : List ℕ} {top : ℕ} {col nexts ends : List ℕ} (t : Tables s top col nexts ends) (root : ℕ) (b : root < top) (white : getD col root 0 ≡ 0) where
+  pub same-size : length (set col root 1) ≡ t .size
+  same-size = length-set col root 1 ∙ t .col-long
+
+  pub started : {next end : ℕ} → WellFormed s top → 1 ≤ root → Span s root 0 next end → Going s top root (set col root 1) (end - next) (set col root 1) (set nexts 0 (root + 1)) (set ends 0 (root + 1)) 1 next end false (end - next)
+  started wf l p =
+      let en = t .enough in
+      let fw = t .few in
       let lc = t .col-long in
       let hi = wf .high in
-      let lk = links-lt s top wf root l h in
+      let lk = links-lt s top wf root l b in
       let ww = whites-lt col root 0 (omega arith) white in
       let wa = whites-all col in
       let ln = t .nexts-long in
       let le = t .ends-long in
-      let long : length {A = ℕ} (replicate limit 0) ≡ limit = length-replicate {A = ℕ} limit 0 in
-      let first : getD (set (replicate limit 0) 0 root) 0 0 ≡ root = getD-set-same (replicate limit 0) 0 root 0 (omega arith) in
-      let none : getD {A = ℕ} (set (replicate limit 0) 0 0) 0 0 ≡ 0 = getD-set-same (replicate limit 0) 0 0 0 (omega arith) in
+      let long : length {A = ℕ} (replicate (t .size) 0) ≡ t .size = length-replicate {A = ℕ} (t .size) 0 in
+      let first : getD (set (replicate (t .size) 0) 0 root) 0 0 ≡ root = getD-set-same (replicate (t .size) 0) 0 root 0 (omega arith) in
+      let none : getD {A = ℕ} (set (replicate (t .size) 0) 0 0) 0 0 ≡ 0 = getD-set-same (replicate (t .size) 0) 0 0 0 (omega arith) in
       record {
-        st = set (replicate limit 0) 0 root;
-        at = set (replicate limit 0) 0 0;
-        walking = begun t root b white (replicate limit 0) (replicate limit 0) long long l h;
-        nexts-long = length-set nexts 0 (root + 1) ∙ ln;
-        ends-long = length-set ends 0 (root + 1) ∙ le;
+        st = set (replicate (t .size) 0) 0 root;
+        at = set (replicate (t .size) 0) 0 0;
+        walking = rw same-size (begun t root b white (replicate (t .size) 0) (replicate (t .size) 0) long long l);
+        nexts-long = length-set nexts 0 (root + 1) ∙ ln ∙ sym same-size;
+        ends-long = length-set ends 0 (root + 1) ∙ le ∙ sym same-size;
         cell = λ j q. let z : j ≡ 0 = omega arith in rw (z, first) (getD-set-same nexts 0 (root + 1) 0 (omega arith));
         used = λ j q. let z : j ≡ 0 = omega arith in rw (z, getD-set-same ends 0 (root + 1) 0 (omega arith)) (omega arith);
         saved = λ j q. absurd (omega arith);
@@ -64,15 +69,15 @@ module _ {s col nexts ends : List ℕ} (t : Tables s col nexts ends) (root : ℕ
       }
 
   -- at the end the sum is that of the cells met since the start
-  pub summed-all : {top next end : ℕ} (col′ : List ℕ) (sum : ℕ) → 1 ≤ root → root < top → Span s root 0 next end → metLinks s top col′ + (end - next) ≡ metLinks s top (set col root 1) + sum → metLinks s top col′ ≡ metLinks s top col + sum
-  summed-all {top} col′ sum l h p e = let lc = t .col-long in let m = met-more s top col root l h (omega arith) white in let q = p .from in let r = p .to in omega arith
+  pub summed-all : {next end : ℕ} (col′ : List ℕ) (sum : ℕ) → 1 ≤ root → Span s root 0 next end → metLinks s top col′ + (end - next) ≡ metLinks s top (set col root 1) + sum → metLinks s top col′ ≡ metLinks s top col + sum
+  summed-all col′ sum l p e = let lc = t .col-long in let en = t .enough in let m = met-more s top col root l b (omega arith) white in let q = p .from in let r = p .to in omega arith
 
 module _ {s : List ℕ} {top root : ℕ} {col₀ : List ℕ} {sum₀ : ℕ} {col nexts ends : List ℕ} {sp next end : ℕ} {met : Bool} {sum : ℕ} (wf : WellFormed s top) (g : Going s top root col₀ sum₀ col nexts ends sp next end met sum) (some : 0 < sp) where
-  turn : Turn s top root col₀ col (g .st) (g .at) sp met
+  turn : Turn s top (length col₀) root col₀ col (g .st) (g .at) sp met
   turn = record { formed = wf; walking = g .walking; some = some }
 
   -- the links that are left go to used cells
-  pub inside : (end ≤ top) × (top ≤ limit) × (sp ≤ limit)
+  pub inside : (end ≤ top) × (top ≤ length col₀) × (sp ≤ length col₀)
   inside =
       let l = last turn in
       let p = g .now some in
@@ -80,14 +85,14 @@ module _ {s : List ℕ} {top root : ℕ} {col₀ : List ℕ} {sum₀ : ℕ} {col
 
   -- ---- one is left
   module _ (h : next < end) where
-    pub taken : Taken s top root col₀ col (g .st) (g .at) sp met next
+    pub taken : Taken s top (length col₀) root col₀ col (g .st) (g .at) sp met next
     taken =
         let p = g .now some in
         let o : tip (g .at) sp < links s (tip (g .st) sp) = omega arith in
         record { turn = turn; one-of = o; leads = p .from ∙ sym (link-next s (tip (g .st) sp) (tip (g .at) sp) o) }
 
     -- it is gone over, to a cell met before
-    over : (met′ : Bool) → Walking s top root col₀ col (g .st) (set (g .at) (sp - 1) (tip (g .at) sp + 1)) sp met′ → Going s top root col₀ sum₀ col nexts ends sp (next + 1) end met′ sum
+    over : (met′ : Bool) → Walking s top (length col₀) root col₀ col (g .st) (set (g .at) (sp - 1) (tip (g .at) sp + 1)) sp met′ → Going s top root col₀ sum₀ col nexts ends sp (next + 1) end met′ sum
     over met′ w =
         let la = g .walking .at-long in
         let rm = g .walking .room in
@@ -176,7 +181,7 @@ module _ {s : List ℕ} {top root : ℕ} {col₀ : List ℕ} {sum₀ : ℕ} {col
   cell-last = let e = g .cell (sp - 1) (omega arith) in omega arith
 
   module _ (h : end ≤ next) where
-    up-walking : Walking s top root col₀ (set col (tip (g .st) sp) 2) (g .st) (g .at) (sp - 1) met
+    up-walking : Walking s top (length col₀) root col₀ (set col (tip (g .st) sp) 2) (g .st) (g .at) (sp - 1) met
     up-walking = let p = g .now some in popped turn (omega arith)
 
     pub less-up : left (set col (getD nexts (sp - 1) 0 - 1) 2) nexts ends (sp - 1) (getD nexts (sp - 1) 0) (getD ends (sp - 1) 0) < left col nexts ends sp next end
@@ -228,7 +233,7 @@ module _ {s : List ℕ} {top root : ℕ} {col₀ : List ℕ} {sum₀ : ℕ} {col
             let lc = g .walking .col-long in
             let la = g .walking .at-long in
             let rm = g .walking .room in
-            let t : Taken s top root col₀ (set col (tip (g .st) sp) 2) (g .st) (g .at) (sp - 1) met (tip (g .st) sp) = record {
+            let t : Taken s top (length col₀) root col₀ (set col (tip (g .st) sp) 2) (g .st) (g .at) (sp - 1) met (tip (g .st) sp) = record {
               turn = record { formed = wf; walking = up-walking; some = omega arith };
               one-of = o;
               leads = (let q : tip (g .st) sp ≡ link s (getD (g .st) k 0) 0 + getD (g .at) k 0 = omega arith in q ∙ sym (link-next s (getD (g .st) k 0) (getD (g .at) k 0) o));
@@ -248,5 +253,5 @@ module _ {s : List ℕ} {top root : ℕ} {col₀ : List ℕ} {sum₀ : ℕ} {col
             }
 
 -- ---- nothing is left on the path
-pub ended : {s : List ℕ} {top root : ℕ} {col₀ : List ℕ} {sum₀ : ℕ} {col nexts ends : List ℕ} {sp next end : ℕ} {met : Bool} {sum : ℕ} → Going s top root col₀ sum₀ col nexts ends sp next end met sum → sp ≡ 0 → Walked s root col₀ col nexts ends met
+pub ended : {s : List ℕ} {top root : ℕ} {col₀ : List ℕ} {sum₀ : ℕ} {col nexts ends : List ℕ} {sp next end : ℕ} {met : Bool} {sum : ℕ} → Going s top root col₀ sum₀ col nexts ends sp next end met sum → sp ≡ 0 → Walked s top root col₀ col nexts ends met
 ended {nexts = nexts} {ends = ends} g e = finished (g .walking) e nexts ends (g .nexts-long) (g .ends-long)

@@ -36,11 +36,13 @@ module _ {met : Bool} (col : List ℕ) (c d : ℕ) where
   past-pop : c < length col → Past met (getD col d 0) → Past met (getD (set col c 2) d 0)
   past-pop h p = elim (ℕ-discrete d c) [ yes z ↦ done (rw z (getD-set-same col c 2 0 h)) | no z ↦ rw (getD-set-other col c d 2 0 z) p ]
 
-module _ (s : List ℕ) (top root : ℕ) (col₀ : List ℕ) where
+module _ (s : List ℕ) (top n root : ℕ) (col₀ : List ℕ) where
   pub record Walking (col st at : List ℕ) (sp : ℕ) (met : Bool) : Type 0 where
-    pub col-long : length col ≡ limit
-    pub st-long : length st ≡ limit
-    pub at-long : length at ≡ limit
+    pub enough : top ≤ n
+    pub few : n ≤ limit
+    pub col-long : length col ≡ n
+    pub st-long : length st ≡ n
+    pub at-long : length at ≡ n
     -- the path: used cells that the root reaches, each by a link of the one before
     pub used : (j : ℕ) → j < sp → (1 ≤ getD st j 0) × (getD st j 0 < top)
     pub reach : (j : ℕ) → j < sp → Reaches (Link s) root (getD st j 0)
@@ -51,7 +53,7 @@ module _ (s : List ℕ) (top root : ℕ) (col₀ : List ℕ) where
     pub met-all : (j : ℕ) → j < sp → getD col (getD st j 0) 0 ≡ 0 → ⊥
     pub colours : (c : ℕ) → getD col c 0 ≤ 2
     pub grey : (c : ℕ) → getD col c 0 ≡ 1 → (j : ℕ) × (j < sp) × (getD st j 0 ≡ c)
-    pub room : sp + whites col ≤ limit
+    pub room : sp + whites col ≤ n
     pub started : getD col root 0 ≡ 0 → ⊥
     -- finished cells
     pub kept : (c : ℕ) → Done col₀ c → Done col c
@@ -62,9 +64,9 @@ module _ (s : List ℕ) (top root : ℕ) (col₀ : List ℕ) where
     pub no-straight : met ≡ false → ((c : ℕ) → Done col₀ c → Accessible (Link s) c) → (c : ℕ) → Done col c → Accessible (Link s) c
 
 -- ---- the first cell on the path
-module _ {s col nexts ends : List ℕ} (t : Tables s col nexts ends) (root : ℕ) (b : root < limit) (white : getD col root 0 ≡ 0) where
+module _ {s : List ℕ} {top : ℕ} {col nexts ends : List ℕ} (t : Tables s top col nexts ends) (root : ℕ) (b : root < top) (white : getD col root 0 ≡ 0) where
   grey-root : getD (set col root 1) root 0 ≡ 1
-  grey-root = let l = t .col-long in getD-set-same col root 1 0 (omega arith)
+  grey-root = let l = t .col-long in let en = t .enough in getD-set-same col root 1 0 (omega arith)
 
   -- the same cells are finished
   was : (c : ℕ) → Done (set col root 1) c → Done col c
@@ -73,16 +75,19 @@ module _ {s col nexts ends : List ℕ} (t : Tables s col nexts ends) (root : ℕ
   still : (c : ℕ) → Done col c → Done (set col root 1) c
   still c d = getD-set-other col root c 1 0 (λ e. let z = sym white ∙ rw e at d in omega arith) ∙ d
 
-  pub begun : {top : ℕ} (st at : List ℕ) → length st ≡ limit → length at ≡ limit → 1 ≤ root → root < top → Walking s top root (set col root 1) (set col root 1) (set st 0 root) (set at 0 0) 1 false
-  begun st at ls la l h =
+  pub begun : (st at : List ℕ) → length st ≡ t .size → length at ≡ t .size → 1 ≤ root → Walking s top (t .size) root (set col root 1) (set col root 1) (set st 0 root) (set at 0 0) 1 false
+  begun st at ls la l =
+      let en = t .enough in
       let lc = t .col-long in
       let first : getD (set st 0 root) 0 0 ≡ root = getD-set-same st 0 root 0 (omega arith) in
       let other : (c : ℕ) → (c ≡ root → ⊥) → getD (set col root 1) c 0 ≡ getD col c 0 = λ c n. getD-set-other col root c 1 0 n in
       record {
+        enough = t .enough;
+        few = t .few;
         col-long = length-set col root 1 ∙ lc;
         st-long = length-set st 0 root ∙ ls;
         at-long = length-set at 0 0 ∙ la;
-        used = λ j q. let z : j ≡ 0 = omega arith in rw (z, first) (l, h);
+        used = λ j q. let z : j ≡ 0 = omega arith in rw (z, first) (l, b);
         reach = λ j q. let z : j ≡ 0 = omega arith in rw (z, first) here;
         path = λ j q. absurd (omega arith);
         small = λ j q. let z : j ≡ 0 = omega arith in rw (z, getD-set-same at 0 0 0 (omega arith)) (omega arith);
@@ -104,7 +109,7 @@ module _ {s col nexts ends : List ℕ} (t : Tables s col nexts ends) (root : ℕ
       by c (inr e) = (omega arith, λ g. omega arith)
 
   -- what was done since is what was done from the start
-  pub from-start : {col′ nexts′ ends′ : List ℕ} {met : Bool} → Walked s root (set col root 1) col′ nexts′ ends′ met → Walked s root col col′ nexts′ ends′ met
+  pub from-start : {col′ nexts′ ends′ : List ℕ} {met : Bool} → Walked s top root (set col root 1) col′ nexts′ ends′ met → Walked s top root col col′ nexts′ ends′ met
   from-start w = record {
     tables = w .tables;
     kept = λ c d. w .kept c (still c d);
@@ -119,20 +124,20 @@ module _ {s col nexts ends : List ℕ} (t : Tables s col nexts ends) (root : ℕ
 abbrev pub tip : List ℕ → ℕ → ℕ
 tip l n = getD l (n - 1) 0
 
-pub record Turn (s : List ℕ) (top root : ℕ) (col₀ col st at : List ℕ) (sp : ℕ) (met : Bool) : Type 0 where
+pub record Turn (s : List ℕ) (top n root : ℕ) (col₀ col st at : List ℕ) (sp : ℕ) (met : Bool) : Type 0 where
   pub formed : WellFormed s top
-  pub walking : Walking s top root col₀ col st at sp met
+  pub walking : Walking s top n root col₀ col st at sp met
   pub some : 0 < sp
 
 -- the last cell is used
-pub record Last (top : ℕ) (st : List ℕ) (sp : ℕ) : Type 0 where
+pub record Last (top n : ℕ) (st : List ℕ) (sp : ℕ) : Type 0 where
   pub from : 1 ≤ tip st sp
   pub below : tip st sp < top
-  pub placed : sp ≤ limit
-  pub limited : top ≤ limit
+  pub placed : sp ≤ n
+  pub limited : top ≤ n
 
-module _ {s : List ℕ} {top root : ℕ} {col₀ col st at : List ℕ} {sp : ℕ} {met : Bool} (t : Turn s top root col₀ col st at sp met) where
-  pub last : Last top st sp
+module _ {s : List ℕ} {top n root : ℕ} {col₀ col st at : List ℕ} {sp : ℕ} {met : Bool} (t : Turn s top n root col₀ col st at sp met) where
+  pub last : Last top n st sp
   last =
       let w = t .walking in
       let h = t .some in
@@ -142,16 +147,16 @@ module _ {s : List ℕ} {top root : ℕ} {col₀ col st at : List ℕ} {sp : ℕ
         from = u .0;
         below = u .1;
         placed = omega arith;
-        limited = t .formed .high;
+        limited = w .enough;
       }
 
 -- ---- the next link of the last cell is taken, to c
-pub record Taken (s : List ℕ) (top root : ℕ) (col₀ col st at : List ℕ) (sp : ℕ) (met : Bool) (c : ℕ) : Type 0 where
-  pub turn : Turn s top root col₀ col st at sp met
+pub record Taken (s : List ℕ) (top n root : ℕ) (col₀ col st at : List ℕ) (sp : ℕ) (met : Bool) (c : ℕ) : Type 0 where
+  pub turn : Turn s top n root col₀ col st at sp met
   pub one-of : tip at sp < links s (tip st sp)
   pub leads : c ≡ link s (tip st sp) (tip at sp)
 
-module _ {s : List ℕ} {top root : ℕ} {col₀ col st at : List ℕ} {sp : ℕ} {met : Bool} {c : ℕ} (t : Taken s top root col₀ col st at sp met c) where
+module _ {s : List ℕ} {top n root : ℕ} {col₀ col st at : List ℕ} {sp : ℕ} {met : Bool} {c : ℕ} (t : Taken s top n root col₀ col st at sp met c) where
   to : Link s (tip st sp) c
   to = subst (Link s (tip st sp)) (sym (t .leads)) (tip at sp, t .one-of, refl)
 
@@ -172,7 +177,7 @@ module _ {s : List ℕ} {top root : ℕ} {col₀ col st at : List ℕ} {sp : ℕ
 
   -- one link more is gone over
   gone-over : (met′ : Bool) → ((x : ℕ) → Past met x → Past met′ x) → Past met′ (getD col c 0) → (met′ ≡ true → Returns (Link s) root) → (met′ ≡ false → met ≡ false)
-      → Walking s top root col₀ col st (set at (sp - 1) (tip at sp + 1)) sp met′
+      → Walking s top n root col₀ col st (set at (sp - 1) (tip at sp + 1)) sp met′
   gone-over met′ up a y n =
       let w = t .turn .walking in
       let h = t .turn .some in
@@ -182,6 +187,8 @@ module _ {s : List ℕ} {top root : ℕ} {col₀ col st at : List ℕ} {sp : ℕ
       let same : getD (set at (sp - 1) (tip at sp + 1)) (sp - 1) 0 ≡ tip at sp + 1 = getD-set-same at (sp - 1) (tip at sp + 1) 0 (omega arith) in
       let other : (i : ℕ) → (i ≡ sp - 1 → ⊥) → getD (set at (sp - 1) (tip at sp + 1)) i 0 ≡ getD at i 0 = λ i d. getD-set-other at (sp - 1) i (tip at sp + 1) 0 d in
       record {
+        enough = w .enough;
+        few = w .few;
         col-long = w .col-long;
         st-long = w .st-long;
         at-long = length-set at (sp - 1) (tip at sp + 1) ∙ la;
@@ -212,11 +219,11 @@ module _ {s : List ℕ} {top root : ℕ} {col₀ col st at : List ℕ} {sp : ℕ
           ]
 
   -- to a finished cell
-  pub passed : Done col c → Walking s top root col₀ col st (set at (sp - 1) (tip at sp + 1)) sp met
+  pub passed : Done col c → Walking s top n root col₀ col st (set at (sp - 1) (tip at sp + 1)) sp met
   passed d = gone-over met (λ x p. p) (done d) (t .turn .walking .yes-cyclic) (λ e. e)
 
   -- to a cell on the path
-  pub turned : getD col c 0 ≡ 1 → Walking s top root col₀ col st (set at (sp - 1) (tip at sp + 1)) sp true
+  pub turned : getD col c 0 ≡ 1 → Walking s top n root col₀ col st (set at (sp - 1) (tip at sp + 1)) sp true
   turned g = gone-over true (λ x. past-met) (back g refl) (λ _. cycle g) (λ e. absurd (false≢true (sym e)))
 
   -- to a cell not met before, which becomes the last of the path
@@ -224,7 +231,7 @@ module _ {s : List ℕ} {top root : ℕ} {col₀ col st at : List ℕ} {sp : ℕ
   landed = let l = last (t .turn) in rw (t .leads) (link-used s top (t .turn .formed) (tip st sp) (l .from) (l .below) (tip at sp) (t .one-of))
 
   module _ (white : getD col c 0 ≡ 0) where
-    pub room-for : sp < limit
+    pub room-for : sp < n
     room-for =
         let w = t .turn .walking in
         let lc = w .col-long in
@@ -233,7 +240,7 @@ module _ {s : List ℕ} {top root : ℕ} {col₀ col st at : List ℕ} {sp : ℕ
         let u = landed in
         omega (arith, whites-lt col c 0 (omega arith) white)
 
-    pub pushed : Walking s top root col₀ (set col c 1) (set st sp c) (set at sp 0) (sp + 1) met
+    pub pushed : Walking s top n root col₀ (set col c 1) (set st sp c) (set at sp 0) (sp + 1) met
     pushed =
         let w = t .turn .walking in
         let h = t .turn .some in
@@ -241,7 +248,7 @@ module _ {s : List ℕ} {top root : ℕ} {col₀ col st at : List ℕ} {sp : ℕ
         let ls = w .st-long in
         let la = w .at-long in
         let rm = w .room in
-        let b = t .turn .formed .high in
+        let b = w .enough in
         let u = landed in
         let ww = whites-lt col c 0 (omega arith) white in
         let new : getD (set st sp c) sp 0 ≡ c = getD-set-same st sp c 0 (omega arith) in
@@ -252,6 +259,8 @@ module _ {s : List ℕ} {top root : ℕ} {col₀ col st at : List ℕ} {sp : ℕ
         let still-met : (d : ℕ) → (getD col d 0 ≡ 0 → ⊥) → getD (set col c 1) d 0 ≡ 0 → ⊥ = λ d n e. elim (ℕ-discrete d c) [ yes z ↦ (let y = sym grey ∙ rw z at e in omega arith) | no z ↦ n (sym (other d z) ∙ e) ] in
         let still : (d : ℕ) → Done col d → Done (set col c 1) d = λ d x. other d (λ z. let y = sym white ∙ rw z at x in omega arith) ∙ x in
         record {
+          enough = w .enough;
+          few = w .few;
           col-long = length-set col c 1 ∙ lc;
           st-long = length-set st sp c ∙ ls;
           at-long = length-set at sp 0 ∙ la;
@@ -279,11 +288,11 @@ module _ {s : List ℕ} {top root : ℕ} {col₀ col st at : List ℕ} {sp : ℕ
         keep d (i, q, x) old = (i, omega arith, old i q ∙ x)
 
 -- ---- the last cell is finished: no link of it is left
-module _ {s : List ℕ} {top root : ℕ} {col₀ col st at : List ℕ} {sp : ℕ} {met : Bool} (t : Turn s top root col₀ col st at sp met) where
+module _ {s : List ℕ} {top n root : ℕ} {col₀ col st at : List ℕ} {sp : ℕ} {met : Bool} (t : Turn s top n root col₀ col st at sp met) where
   all-past : links s (tip st sp) ≤ tip at sp → (k : ℕ) → k < links s (tip st sp) → Past met (getD col (link s (tip st sp) k) 0)
   all-past h k d = let n = t .some in t .walking .gone (sp - 1) (omega arith) k (omega arith)
 
-  pub popped : links s (tip st sp) ≤ tip at sp → Walking s top root col₀ (set col (tip st sp) 2) st at (sp - 1) met
+  pub popped : links s (tip st sp) ≤ tip at sp → Walking s top n root col₀ (set col (tip st sp) 2) st at (sp - 1) met
   popped h =
       let w = t .walking in
       let n = t .some in
@@ -297,6 +306,8 @@ module _ {s : List ℕ} {top root : ℕ} {col₀ col st at : List ℕ} {sp : ℕ
       let other : (c : ℕ) → (c ≡ i → ⊥) → getD (set col i 2) c 0 ≡ getD col c 0 = λ c n. getD-set-other col i c 2 0 n in
       let still : (c : ℕ) → Done col c → Done (set col i 2) c = λ c d. elim (ℕ-discrete c i) [ yes z ↦ rw z same | no z ↦ other c z ∙ d ] in
       record {
+        enough = w .enough;
+        few = w .few;
         col-long = length-set col i 2 ∙ lc;
         st-long = w .st-long;
         at-long = w .at-long;
@@ -324,7 +335,7 @@ module _ {s : List ℕ} {top root : ℕ} {col₀ col st at : List ℕ} {sp : ℕ
       keep c n (i, q, x) = elim (ℕ-discrete i (sp - 1)) [ yes y ↦ absurd (n (sym x ∙ ap (λ (m : ℕ). getD st m 0) y)) | no y ↦ (i, omega arith, x) ]
 
 -- ---- nothing is left on the path
-module _ {s : List ℕ} {top root : ℕ} {col₀ col st at : List ℕ} {sp : ℕ} {met : Bool} (w : Walking s top root col₀ col st at sp met) (empty : sp ≡ 0) where
+module _ {s : List ℕ} {top n root : ℕ} {col₀ col st at : List ℕ} {sp : ℕ} {met : Bool} (w : Walking s top n root col₀ col st at sp met) (empty : sp ≡ 0) where
   none-on : (c : ℕ) → getD col c 0 ≡ 1 → ⊥
   none-on c g = let p = w .grey c g in let q = p .1 in omega arith
 
@@ -335,9 +346,12 @@ module _ {s : List ℕ} {top root : ℕ} {col₀ col st at : List ℕ} {sp : ℕ
   over-links : (i j : ℕ) → Done col i → Link s i j → Done col j
   over-links i j d (k, q, e) = rw e (past (link s i k) (w .closed i k d q))
 
-  pub finished : (nexts ends : List ℕ) → length nexts ≡ limit → length ends ≡ limit → Walked s root col₀ col nexts ends met
+  pub finished : (nexts ends : List ℕ) → length nexts ≡ n → length ends ≡ n → Walked s top root col₀ col nexts ends met
   finished nexts ends ln le = record {
     tables = record {
+      size = n;
+      enough = w .enough;
+      few = w .few;
       col-long = w .col-long;
       nexts-long = ln;
       ends-long = le;
@@ -355,7 +369,7 @@ module _ {s : List ℕ} {top root : ℕ} {col₀ col st at : List ℕ} {sp : ℕ
       two c z = let b = w .colours c in let n = none-on c in omega arith
 
 -- ---- a root that was finished before is not walked again
-pub walked-before : {s col nexts ends : List ℕ} (root : ℕ) → Tables s col nexts ends → (getD col root 0 ≡ 0 → ⊥) → Walked s root col col nexts ends false
+pub walked-before : {s : List ℕ} {top : ℕ} {col nexts ends : List ℕ} (root : ℕ) → Tables s top col nexts ends → (getD col root 0 ≡ 0 → ⊥) → Walked s top root col col nexts ends false
 walked-before {s} {col = col} root t n = record {
   tables = t;
   kept = λ c d. d;

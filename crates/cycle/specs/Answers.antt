@@ -6,11 +6,11 @@ use mathlib.Core.Logic.{_⊎_, inl, inr, ⊎-elim}
 use Prim.Native.Nat.{ℕ, _+_, _<_, _≤_}
 use native.Mathlib.Omega.{arith}
 use lib.Dec.{eqb}
-use lib.ListN.{getD, replicate}
+use lib.ListN.{getD}
 use borrow.Author.Tests.{eqb-true, eqb-false, eq-eqb, ne-eqb}
 use Rattle.cell.specs.declared.Kind.the-variants.{Str, Atom}
 use Rattle.cell.specs.Kinds.{byTag, kindOf}
-use Rattle.store.specs.Store.{limit, kindAt, termAt, WellFormed}
+use Rattle.store.specs.Store.{kindAt, termAt, WellFormed}
 use Rattle.store.specs.Steps.{term-used}
 use Rattle.cycle.specs.Graph.{Reach, Reaches, here, Accessible, no-cycle}
 use Rattle.cycle.specs.Some.{someBelow, some-true}
@@ -22,9 +22,9 @@ use Rattle.cycle.specs.Room.{reaches, strReached, lisReached, runRoom, r
 use Rattle.cycle.specs.Reached.{found, finds, reach-used, true-str}
 use Rattle.cycle.specs.Bound.{named, room-le}
 use Rattle.cycle.specs.Met.{ifMet, ifNamed, metLinks, met-none, met-cover}
-use Rattle.cycle.specs.Tables.{Done, Names, Walked, none-done}
+use Rattle.cycle.specs.Tables.{Done, NoneMet, Names, Walked, none-done}
 
-module _ {s : List ℕ} {top root : ℕ} {col₀ col nexts ends : List ℕ} {met : Bool} (wf : WellFormed s top) (t : termAt s top root ≡ true) (w : Walked s root col₀ col nexts ends met) where
+module _ {s : List ℕ} {top root : ℕ} {col₀ col nexts ends : List ℕ} {met : Bool} (wf : WellFormed s top) (t : termAt s top root ≡ true) (w : Walked s top root col₀ col nexts ends met) where
   -- after tables whose finished cells reach no cycle, a walk answers whether the root does
   pub walked-verdict : ((c : ℕ) → Done col₀ c → Accessible (Link s) c) → met ≡ cyclicAt s top root
   walked-verdict before = let u = term-used s top root t in go met refl (cyclicAt s top root) refl (u .0) (u .1)
@@ -34,10 +34,10 @@ module _ {s : List ℕ} {top root : ℕ} {col₀ col nexts ends : List ℕ} {met
       go true e false q l h = absurd (no-cycle (acc-links s top wf (false-acc s top wf root l h q) t) (w .yes-cyclic e))
       go false e b q l h = sym (acc-false s top wf root l h (acc-edges s (w .no-straight e before root (w .reached root here)))) ∙ q
 
-  -- ---- after tables of zeros
-  module _ (zeros : col₀ ≡ replicate limit 0) where
+  -- ---- where no cell was met before
+  module _ (none : NoneMet col₀) where
     done-reached : (c : ℕ) → Done col c → Reaches (Link s) root c
-    done-reached c d = ⊎-elim (λ e. absurd (none-done col₀ zeros c e)) (λ r. r) (w .only c d)
+    done-reached c d = ⊎-elim (λ e. absurd (none-done col₀ none c e)) (λ r. r) (w .only c d)
 
     -- what finished cells name, other than Atoms, is what the cells that the root reaches name
     names-found : (g : ℕ → ℕ) → ((x n a : ℕ) → kindAt s x ≡ Atom n a → g x ≡ 0) → (table : List ℕ) → Names g top col table → (f : ℕ) → 1 ≤ f → marked table f ≡ someBelow top (λ x. reaches s top root x && eqb (g x) f)
@@ -101,10 +101,10 @@ module _ {s : List ℕ} {top root : ℕ} {col₀ col nexts ends : List ℕ} {met
         two false e = omega arith
 
     -- a copy needs no more room than 1 and the links of the cells that were met
-    pub walked-enough : (n : ℕ) → metLinks s top col ≡ metLinks s top col₀ + n → roomOf s top root ≤ 1 + n
+    pub walked-enough : (m : ℕ) → metLinks s top col ≡ metLinks s top col₀ + m → roomOf s top root ≤ 1 + m
     unfolding roomOf metLinks head headKind pair pairKind kindOf byTag
-    walked-enough n passed =
-        let none = met-none s top col₀ zeros in
+    walked-enough m passed =
+        let z = met-none s top col₀ none in
         let r = room-le s top wf (strReached s top root) (lisReached s top root) (λ f. ifMet col f (arityAt s f)) (ifNamed 1) (ifNamed 2) (λ x. ifMet col x (head s x)) (λ x. ifMet col x (pair s x)) (λ c. ifMet col c (links s c))
         need
         (nothing 1 (eqb (getD col 0 0) 0) (ap (λ (v : ℕ). headKind (kindOf v)) (wf .zeroth)))

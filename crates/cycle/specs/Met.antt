@@ -1,21 +1,21 @@
 -- The links of the cells that a walk has met, each cell's once: what it went over when it is done. A copy of all these cells needs no more room than 1 and their links: a structure's arguments are links of its functor cell, whose own place is the link of a Str, and the two cells of a pair are the links of a Lis.
-use mathlib.Core.Path.{_≡_, refl, ap, _∙_}
+use mathlib.Core.Path.{_≡_, refl}
 use mathlib.Core.Bool.{Bool, true, false, cond}
 use mathlib.Core.List.{List}
 use Prim.Native.Nat.{ℕ, zero, suc, _+_, _-_, _<_, _≤_}
 use native.Mathlib.Omega.{arith}
 use native.Mathlib.Decide.{ℕ-discrete}
 use lib.Dec.{eqb}
-use lib.ListN.{length, getD, set, replicate}
+use lib.ListN.{length, getD, set}
 use lib.Seq.{getD-set-same, getD-set-other}
 use borrow.Author.Tests.{ne-eqb}
 use Rattle.cell.specs.declared.Kind.{Kind}
 use Rattle.cell.specs.declared.Kind.the-variants.{Var, Str, Lis, Atom, Fixnum, Bad}
-use Rattle.store.specs.Store.{limit, kindAt}
-use Rattle.store.specs.Zeros.{zero-at}
+use Rattle.store.specs.Store.{kindAt}
 use Rattle.cycle.specs.Sum.{sumFrom, sum-same, sum-one}
 use Rattle.cycle.specs.Kids.{arityKind, arityAt, headKind, head, pairKind, pair}
 use Rattle.cycle.specs.Links.{linksKind, links}
+use Rattle.cycle.specs.Tables.{NoneMet}
 
 -- n, if the cell c is met: its colour is not 0
 abbrev pub ifMet : List ℕ → ℕ → ℕ → ℕ
@@ -31,13 +31,13 @@ metLinks s top col = sumFrom 1 (top - 1) (λ c. ifMet col c (links s c))
 
 -- ---- one cell after the other
 module _ (s : List ℕ) (top : ℕ) where
-  pub met-none : (col : List ℕ) → col ≡ replicate limit 0 → metLinks s top col ≡ 0
+  pub met-none : (col : List ℕ) → NoneMet col → metLinks s top col ≡ 0
   unfolding metLinks sumFrom
-  met-none col e = none (top - 1) 1
+  met-none col white = none (top - 1) 1
     where
-      none : (n from : ℕ) → sumFrom from n (λ c. ifMet col c (links s c)) ≡ 0
+      none : (m from : ℕ) → sumFrom from m (λ c. ifMet col c (links s c)) ≡ 0
       none zero from = refl
-      none (suc n) from = let r = none n (suc from) in let z : getD col from 0 ≡ 0 = ap (λ (l : List ℕ). getD l from 0) e ∙ zero-at limit from in rw z (omega arith)
+      none (suc m) from = let r = none m (suc from) in rw (white from) (omega arith)
 
   module _ (col : List ℕ) (c : ℕ) where
     -- a cell is met

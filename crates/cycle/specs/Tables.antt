@@ -15,9 +15,17 @@ use Rattle.store.specs.Zeros.{zero-at}
 use Rattle.cycle.specs.Graph.{Reaches, Returns, Accessible}
 use Rattle.cycle.specs.Links.{Link}
 
+-- how many entries the small tables have
+abbrev pub small : ℕ
+small = 256
+
 -- the cell c is finished
 abbrev pub Done : List ℕ → ℕ → Type 0
 Done col c = getD col c 0 ≡ 2
+
+-- no cell is met yet
+abbrev pub NoneMet : List ℕ → Type 0
+NoneMet col = (c : ℕ) → getD col c 0 ≡ 0
 
 -- a table with a mark at y; 0 is no cell to mark
 unfoldable pub withMark : List ℕ → ℕ → List ℕ
@@ -30,18 +38,22 @@ pub record Names (g : ℕ → ℕ) (n : ℕ) (col table : List ℕ) : Type 0 whe
   pub only : (f : ℕ) → getD table f 0 ≡ 1 → (x : ℕ) × Done col x × (g x ≡ f)
 
 -- before and after a walk
-pub record Tables (s : List ℕ) (col nexts ends : List ℕ) : Type 0 where
-  pub col-long : length col ≡ limit
-  pub nexts-long : length nexts ≡ limit
-  pub ends-long : length ends ≡ limit
+pub record Tables (s : List ℕ) (top : ℕ) (col nexts ends : List ℕ) : Type 0 where
+  -- each has a place for every used cell, and no more than a store may use
+  pub size : ℕ
+  pub enough : top ≤ size
+  pub few : size ≤ limit
+  pub col-long : length col ≡ size
+  pub nexts-long : length nexts ≡ size
+  pub ends-long : length ends ≡ size
   -- no cell is on the path
   pub colours : (c : ℕ) → (getD col c 0 ≡ 0) ⊎ Done col c
   -- finished cells are closed under links
   pub closed : (i j : ℕ) → Done col i → Link s i j → Done col j
 
 -- what a walk from the root did, by the colours before and the tables after it, and what it answered
-pub record Walked (s : List ℕ) (root : ℕ) (col₀ col nexts ends : List ℕ) (met : Bool) : Type 0 where
-  pub tables : Tables s col nexts ends
+pub record Walked (s : List ℕ) (top root : ℕ) (col₀ col nexts ends : List ℕ) (met : Bool) : Type 0 where
+  pub tables : Tables s top col nexts ends
   -- finished are the cells that were so before, and those that the root reaches
   pub kept : (c : ℕ) → Done col₀ c → Done col c
   pub reached : (c : ℕ) → Reaches (Link s) root c → Done col c
@@ -87,17 +99,22 @@ module _ (g : ℕ → ℕ) (col : List ℕ) where
     pub names-to : {m : ℕ} → m ≤ n → Names g m col table
     names-to h = record { long = t .long; all = λ x a b q. t .all x a (omega arith) q; only = t .only }
 
--- ---- tables of zeros, with which a first walk starts
-pub none-done : (col : List ℕ) → col ≡ replicate limit 0 → (c : ℕ) → Done col c → ⊥
-none-done col e c d = let z = sym (zero-at limit c) ∙ ap (λ (l : List ℕ). getD l c 0) (sym e) ∙ d in omega arith
+-- ---- tables with which a first walk starts
+pub none-done : (col : List ℕ) → NoneMet col → (c : ℕ) → Done col c → ⊥
+none-done col none c d = let z = none c in omega arith
 
-pub fresh : (s col nexts ends : List ℕ) → col ≡ replicate limit 0 → nexts ≡ replicate limit 0 → ends ≡ replicate limit 0 → Tables s col nexts ends
-fresh s col nexts ends ec en ee =
-    let long : (l : List ℕ) → l ≡ replicate limit 0 → length l ≡ limit = λ l e. ap length e ∙ length-replicate {A = ℕ} limit 0 in
+-- of zeros
+pub fresh : (s : List ℕ) (top n : ℕ) (col nexts ends : List ℕ) → top ≤ n → n ≤ limit → col ≡ replicate n 0 → nexts ≡ replicate n 0 → ends ≡ replicate n 0 → Tables s top col nexts ends
+fresh s top n col nexts ends h f ec en ee =
+    let long : (l : List ℕ) → l ≡ replicate n 0 → length l ≡ n = λ l e. ap length e ∙ length-replicate {A = ℕ} n 0 in
+    let none : NoneMet col = λ c. ap (λ (l : List ℕ). getD l c 0) ec ∙ zero-at n c in
     record {
+      size = n;
+      enough = h;
+      few = f;
       col-long = long col ec;
       nexts-long = long nexts en;
       ends-long = long ends ee;
-      colours = λ c. inl (ap (λ (l : List ℕ). getD l c 0) ec ∙ zero-at limit c);
-      closed = λ i j d e. absurd (none-done col ec i d);
+      colours = λ c. inl (none c);
+      closed = λ i j d e. absurd (none-done col none i d);
     }

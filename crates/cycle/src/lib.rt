@@ -12,11 +12,14 @@ ghost use Rattle.cycle.specs.Verdict.{cyclicAt, verdictOf};
 ghost use Rattle.cycle.specs.Room.{roomBy, roomOf, marked};
 ghost use Rattle.cycle.specs.Most.{ownRoom, mostRoom};
 ghost use Rattle.cycle.specs.Counted.{Counted};
-ghost use Rattle.cycle.specs.Tables.{Names, Tables, Walked};
+ghost use Rattle.cycle.specs.Tables.{NoneMet, Names, Tables, Walked};
 ghost use Rattle.cycle.specs.Met.{metLinks};
 use cell::Kind;
 use cell::Refusal;
 use store::LIMIT;
+
+// The most cells of a store that the small tables of a walk are enough for.
+const SMALL: usize = 256;
 
 // What the cycle verdict answers.
 pub enum Verdict {
@@ -89,12 +92,12 @@ fn walk(
     cells: &[u64],
     top: usize,
     root: usize,
-    col: &mut [u8; LIMIT],
-    nexts: &mut [u16; LIMIT],
-    ends: &mut [u16; LIMIT],
+    col: &mut [u8],
+    nexts: &mut [u16],
+    ends: &mut [u16],
 ) -> Seen
-    requires { ⌜ WellFormed (now cells) top × (1 ≤ root) × (root < top) × Tables (now cells) (now col) (now nexts) (now ends) × (getD (now col) root 0 ≡ 0) ⌝ }
-    ensures { λ r. ⌜ Walked (now (cells .entry)) root (now (col .entry)) (now (col .exit)) (now (nexts .exit)) (now (ends .exit)) (r .cycle) × (metLinks (now (cells .entry)) top (now (col .exit)) ≡ metLinks (now (cells .entry)) top (now (col .entry)) + r .links) ⌝ }
+    requires { ⌜ WellFormed (now cells) top × (1 ≤ root) × (root < top) × Tables (now cells) top (now col) (now nexts) (now ends) × (getD (now col) root 0 ≡ 0) ⌝ }
+    ensures { λ r. ⌜ Walked (now (cells .entry)) top root (now (col .entry)) (now (col .exit)) (now (nexts .exit)) (now (ends .exit)) (r .cycle) × (metLinks (now (cells .entry)) top (now (col .exit)) ≡ metLinks (now (cells .entry)) top (now (col .entry)) + r .links) ⌝ }
 {
     col[root] = 1;
     nexts[0] = (root + 1) as u16;
@@ -135,35 +138,54 @@ fn walk(
     Seen { cycle: met, links }
 }
 
-// Whether the root reaches a cycle.
-pub fn cyclic(cells: &[u64], top: usize, root: usize) -> bool
-    requires { ⌜ WellFormed (now cells) top × (termAt (now cells) top root ≡ true) ⌝ }
-    ensures { λ r. ⌜ r ≡ cyclicAt (now (cells .entry)) top root ⌝ }
-{
-    let mut col = [0u8; LIMIT];
-    let mut nexts = [0u16; LIMIT];
-    let mut ends = [0u16; LIMIT];
-    let seen = walk(cells, top, root, &mut col, &mut nexts, &mut ends);
-    seen.cycle
-}
-
 // Whether one of two roots reaches a cycle; what the first reaches is not walked again.
-pub fn either_cyclic(cells: &[u64], top: usize, a: usize, b: usize) -> bool
-    requires { ⌜ WellFormed (now cells) top × (termAt (now cells) top a ≡ true) × (termAt (now cells) top b ≡ true) ⌝ }
+fn either_walked(
+    cells: &[u64],
+    top: usize,
+    a: usize,
+    b: usize,
+    col: &mut [u8],
+    nexts: &mut [u16],
+    ends: &mut [u16],
+) -> bool
+    requires { ⌜ WellFormed (now cells) top × (termAt (now cells) top a ≡ true) × (termAt (now cells) top b ≡ true) × Tables (now cells) top (now col) (now nexts) (now ends) × NoneMet (now col) ⌝ }
     ensures { λ r. ⌜ r ≡ (cyclicAt (now (cells .entry)) top a || cyclicAt (now (cells .entry)) top b) ⌝ }
 {
-    let mut col = [0u8; LIMIT];
-    let mut nexts = [0u16; LIMIT];
-    let mut ends = [0u16; LIMIT];
-    let first = walk(cells, top, a, &mut col, &mut nexts, &mut ends);
+    let first = walk(cells, top, a, col, nexts, ends);
     if first.cycle {
         return true;
     }
     if col[b] != 0 {
         return false;
     }
-    let second = walk(cells, top, b, &mut col, &mut nexts, &mut ends);
+    let second = walk(cells, top, b, col, nexts, ends);
     second.cycle
+}
+
+// Whether one of two roots reaches a cycle. A small store gets small tables, which are sooner set
+// to 0.
+pub fn either_cyclic(cells: &[u64], top: usize, a: usize, b: usize) -> bool
+    requires { ⌜ WellFormed (now cells) top × (termAt (now cells) top a ≡ true) × (termAt (now cells) top b ≡ true) ⌝ }
+    ensures { λ r. ⌜ r ≡ (cyclicAt (now (cells .entry)) top a || cyclicAt (now (cells .entry)) top b) ⌝ }
+{
+    if top <= SMALL {
+        let mut col = [0u8; SMALL];
+        let mut nexts = [0u16; SMALL];
+        let mut ends = [0u16; SMALL];
+        return either_walked(cells, top, a, b, &mut col, &mut nexts, &mut ends);
+    }
+    let mut col = [0u8; LIMIT];
+    let mut nexts = [0u16; LIMIT];
+    let mut ends = [0u16; LIMIT];
+    either_walked(cells, top, a, b, &mut col, &mut nexts, &mut ends)
+}
+
+// Whether the root reaches a cycle.
+pub fn cyclic(cells: &[u64], top: usize, root: usize) -> bool
+    requires { ⌜ WellFormed (now cells) top × (termAt (now cells) top root ≡ true) ⌝ }
+    ensures { λ r. ⌜ r ≡ cyclicAt (now (cells .entry)) top root ⌝ }
+{
+    either_cyclic(cells, top, root, root)
 }
 
 // The cycle verdict: whether the root reaches a cycle; refusals 1 and 3.

@@ -122,6 +122,20 @@ fn chains() {
     large(b"the same, closed through a structure: ", &cells, 4003);
 }
 
+// A chain to a structure behind it, which closes it or not.
+fn closed_at(name: &[u8], last: usize)
+    requires { ⌜ last + 3 < limit ⌝ }
+{
+    let mut cells = [0u64; LIMIT];
+    chained(&mut cells, last);
+    cells[last] = STR + (last + 1) as u64;
+    cells[last + 1] = G_1;
+    cells[last + 2] = VAR + 1;
+    large(name, &cells, last + 3);
+    cells[last + 2] = A;
+    large(b"the same, not closed: ", &cells, last + 3);
+}
+
 // Each cell before the header is a Str of it.
 fn structures_of(cells: &mut [u64; LIMIT], header: usize)
     requires { ⌜ header < limit ⌝ }
@@ -167,5 +181,7 @@ fn main() {
     refusals();
     doubling();
     chains();
+    closed_at(b"256 cells, closed at the last: ", 253);
+    closed_at(b"257 cells, closed at the last: ", 254);
     wide();
 }

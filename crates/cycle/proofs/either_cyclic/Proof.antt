@@ -1,66 +1,58 @@
--- `cycle::either_cyclic` meets its contract: two walks, the second on the tables of the first, whose finished cells reach no cycle; it is left out if the second root is one of these.
-use mathlib.Core.Path.{_≡_, refl}
-use mathlib.Core.Bool.{Bool, true, false, _||_}
+-- `cycle::either_cyclic` meets its contract: the walks are on tables of zeros, small or not.
+use mathlib.Core.Path.{refl}
 use native.Mathlib.Omega.{arith}
-use denote.Ref.{now}
+use borrow.Author.Needs.{needs}
 use Rattle.store.specs.Store.{limit}
 use Rattle.store.specs.Zeros.{zero-at}
-use Rattle.store.specs.Steps.{term-used}
-use Rattle.cycle.specs.Verdict.{cyclicAt}
-use Rattle.cycle.specs.Tables.{fresh, none-done}
-use Rattle.cycle.specs.Answers.{walked-verdict}
-use Rattle.cycle.proofs.Walking.{walked-before}
+use Rattle.cycle.specs.Tables.{small, fresh}
 use Rattle.cycle.proofs.either_cyclic.Statement.{statement}
 use Rattle.cycle.proofs.either_cyclic.Tie as tie
 
-or-first : (a b x : Bool) → x ≡ a → x ≡ true → true ≡ (a || b)
-or-first a b x p t = rw (← p, t)
+slice-aggregate-either-walked : tie.Need-slice-aggregate-either-walked
+slice-aggregate-either-walked c = search needs
 
-or-second : (a b x y : Bool) → x ≡ a → x ≡ false → y ≡ b → y ≡ (a || b)
-or-second a b x y p f q = rw (← p, f) q
+slice-aggregate-either-walked-2 : tie.Need-slice-aggregate-either-walked-2
+slice-aggregate-either-walked-2 c = search needs
 
--- what the first walk answers
-first : (c : tie.After-walk) → let a = c .before .before .before .before .before .args in c .walk .result .cycle ≡ cyclicAt (now (a .cells)) (a .top) (a .a)
-first c = let p = c .before .before .before .before .before .pre in walked-verdict (p .0) (p .1) (c .walk .ensures .0) (λ x d. absurd (none-done _ refl x d))
+slice-aggregate-either-walked-3 : tie.Need-slice-aggregate-either-walked-3
+slice-aggregate-either-walked-3 c = search needs
 
-walk-requires : tie.Need-walk-requires
-walk-requires c κs =
-    let f = c .before .before .before .before in
-    let u = term-used _ _ _ (f .pre .1) in
-    (f .pre .0, u .0, u .1, fresh _ _ _ _ refl refl refl, zero-at limit (f .args .a))
+either-walked-requires : tie.Need-either-walked-requires
+either-walked-requires c κs =
+    let p = c .before .before .before .before .before .pre in
+    (p .0, p .1, p .2, fresh _ _ small _ _ _ (c .before .before .before .if1 .taken) (omega arith) refl refl refl, zero-at small)
 
 returns : tie.Need-returns
-returns c = or-first _ _ _ (first (c .before)) (c .if1 .taken)
+returns c = search needs
 
-array-read-if2 : tie.Need-array-read-if2
-array-read-if2 c =
-    let p = c .before .before .before .before .before .before .pre in
-    let u = term-used _ _ _ (p .2) in
-    let h = p .0 .high in
-    omega arith
+slice-aggregate-either-walked-4 : tie.Need-slice-aggregate-either-walked-4
+slice-aggregate-either-walked-4 c = search needs
+
+slice-aggregate-either-walked-5 : tie.Need-slice-aggregate-either-walked-5
+slice-aggregate-either-walked-5 c = search needs
+
+slice-aggregate-either-walked-6 : tie.Need-slice-aggregate-either-walked-6
+slice-aggregate-either-walked-6 c = search needs
+
+either-walked-requires-2 : tie.Need-either-walked-requires-2
+either-walked-requires-2 c κs =
+    let p = c .before .before .before .before .before .pre in
+    (p .0, p .1, p .2, fresh _ _ limit _ _ _ (p .0 .high) (omega arith) refl refl refl, zero-at limit)
 
 returns-2 : tie.Need-returns-2
-returns-2 c =
-    let d = c .before .before in
-    let p = d .before .before .before .before .before .pre in
-    or-second _ _ _ _ (first d) (c .before .if1 .left)
-    (walked-verdict (p .0) (p .2) (walked-before _ (d .walk .ensures .0 .tables) (c .if2 .taken)) (d .walk .ensures .0 .no-straight (c .before .if1 .left) (λ x d. absurd (none-done _ refl x d))))
-
-walk-requires-2 : tie.Need-walk-requires-2
-walk-requires-2 c κs =
-    let d = c .before .before .before .before .before in
-    let p = d .before .before .before .before .before .pre in
-    let u = term-used _ _ _ (p .2) in
-    (p .0, u .0, u .1, d .walk .ensures .0 .tables, c .before .before .before .if2 .left)
-
-returns-3 : tie.Need-returns-3
-returns-3 c =
-    let e = c .before .before .before .before .before in
-    let d = e .before in
-    let p = d .before .before .before .before .before .pre in
-    or-second _ _ _ _ (first d) (e .if1 .left)
-    (walked-verdict (p .0) (p .2) (c .walk2 .ensures .0) (d .walk .ensures .0 .no-straight (e .if1 .left) (λ x d. absurd (none-done _ refl x d))))
+returns-2 c = search needs
 
 pub either-cyclic-spec : {M : Type 1} → statement M
 either-cyclic-spec =
-    tie.close (tie.spec walk-requires returns array-read-if2 returns-2 walk-requires-2 returns-3)
+    tie.close
+    (tie.spec
+    slice-aggregate-either-walked
+    slice-aggregate-either-walked-2
+    slice-aggregate-either-walked-3
+    either-walked-requires
+    returns
+    slice-aggregate-either-walked-4
+    slice-aggregate-either-walked-5
+    slice-aggregate-either-walked-6
+    either-walked-requires-2
+    returns-2)
