@@ -5,9 +5,10 @@ use Prim.Native.Nat.{ℕ, zero, suc, _+_, _-_, _<_, _≤_}
 use native.Mathlib.Nat.{not-suc-le-zero, le-of-suc-le-suc}
 use native.Mathlib.Numerals.{add-one}
 use native.Mathlib.Omega.{arith}
-use lib.ListN.{length, getD, set, take, drop, length-append, length-take, length-drop, drop-of-length-le, List·getD-append}
-use lib.Seq.{take-length, take-all, length-take-le, getD-drop, getD-take, getD-append-add}
-use borrow.Rule.Slice.PartMut.{midOf, postOf, putMid}
+use lib.ListN.{length, getD, set, take, drop, length-append, length-take, length-drop, List·getD-append}
+use lib.Seq.{take-length, length-take-le, getD-drop, getD-take, getD-append-add}
+use borrow.Rule.Slice.PartMut.{midOf, putMid}
+use Rattle.store.specs.Part.{mid-is, post-is}
 use Rattle.store.specs.Zeros.{zeroed, zeroed-is}
 
 unfoldable pub front : List ℕ → List ℕ → List ℕ
@@ -38,15 +39,9 @@ module _ (i : ℕ) (ws d : List ℕ) where
 
 -- ---- what a callee left in the part from a place to the end, said of the whole
 module _ (s : List ℕ) (top : ℕ) (within : top ≤ length s) where
-  pub mid-is : midOf top (length s - top) s ≡ drop top s
-  mid-is = take-all (length s - top) (drop top s) (simp length-drop (omega arith))
-
-  pub post-is : postOf top (length s - top) s ≡ []
-  post-is = drop-of-length-le (drop top s) {i = length s - top} (simp length-drop (omega arith))
-
   pub put-laid : (ws y : List ℕ) → y ≡ front ws (midOf top (length s - top) s) → putMid top (length s - top) s y ≡ laid s top ws
   unfolding laid
-  put-laid ws y e = ap (λ (r : List ℕ). take top s ++ r) (ap (λ (r : List ℕ). y ++ r) post-is ∙ append-nil y ∙ e ∙ ap (front ws) mid-is)
+  put-laid ws y e = ap (λ (r : List ℕ). take top s ++ r) (ap (λ (r : List ℕ). y ++ r) (post-is s top within) ∙ append-nil y ∙ e ∙ ap (front ws) (mid-is s top within))
 
 -- ---- what stands where
 module _ (s : List ℕ) (top : ℕ) (ws : List ℕ) (fits : top + length ws ≤ length s) where

@@ -16,7 +16,7 @@ use Rattle.cell.specs.declared.Kind.{Kind}
 use Rattle.cell.specs.declared.Kind.the-variants.{Var, Str, Lis, Atom, Fixnum, Bad}
 use Rattle.cell.specs.Kinds.{kindOf, wordOfKind}
 use Rattle.store.specs.Store.{endOf}
-use Rattle.append.specs.Laid.{mid-is, post-is}
+use Rattle.store.specs.Part.{mid-is, post-is}
 use Rattle.cycle.specs.Kids.{arityAt}
 use Rattle.copy.specs.Rules.{State, tableWords, homeAt, structureAt, pairAt, endKind, endWord, copyRun, run, homed, put, act, scan, scanned}
 use Rattle.copy.specs.Whole.{scan-on}

@@ -7,7 +7,7 @@ use lib.ListN.{length, getD, take, drop, replicate, length-append, length-take, 
 use lib.Seq.{getD-take, getD-drop, getD-append-add, ext-getD, length-take-le}
 use borrow.Rule.Slice.PartMut.{putMid}
 use Rattle.store.specs.Zeros.{zero-at}
-use Rattle.append.specs.Laid.{post-is}
+use Rattle.store.specs.Part.{post-is}
 use Rattle.chains.specs.Work.{workNeed, cleared}
 use Rattle.chains.specs.Cleared.{cleared-long, cleared-zero, cleared-other, cleared-same}
 use Rattle.chains.specs.Chains.{Hops}

@@ -8,7 +8,7 @@ use lib.Seq.{getD-drop}
 use borrow.Rule.Slice.PartMut.{midOf, putMid}
 use Rattle.cell.specs.declared.Kind.{Kind}
 use Rattle.store.specs.Store.{kindAt}
-use Rattle.append.specs.Laid.{mid-is}
+use Rattle.store.specs.Part.{mid-is}
 use Rattle.chains.specs.Chains.{Hops, Hopped}
 use Rattle.copy.specs.Rules.{tableWords}
 use Rattle.copy.specs.Buffer.{tablesOf, hopsOf, usedWords, Kept, kept-none, part-tables, part-hops, part-long}

@@ -38,6 +38,7 @@ module _ {met : Bool} (col : List ℕ) (c d : ℕ) where
 
 module _ (s : List ℕ) (top n root : ℕ) (col₀ : List ℕ) where
   pub record Walking (col st at : List ℕ) (sp : ℕ) (met : Bool) : Type 0 where
+    -- the tables have n entries
     pub enough : top ≤ n
     pub few : n ≤ limit
     pub col-long : length col ≡ n

@@ -5,6 +5,7 @@ pub mod Follow
 pub mod Survey
 -- Laws of them.
 pub mod Zeros
+pub mod Part
 pub mod Steps
 pub mod Pigeon
 pub mod Ends

@@ -13,7 +13,7 @@ use Rattle.store.specs.Store.{kindAt, step, stepKind, endOf, WellFormed}
 use Rattle.terms.specs.View.{viewKind}
 use Rattle.store.specs.Steps.{steps-fixed, step-used}
 use Rattle.store.specs.WellFormed.{keeps-cells}
-use Rattle.append.specs.Laid.{mid-is, post-is}
+use Rattle.store.specs.Part.{mid-is, post-is}
 use Rattle.chains.specs.Chains.{Hops, Hopped}
 use Rattle.chains.specs.Hops.{chained, next-end}
 use Rattle.unify.specs.Layout.{hopsOf, pairPlace}
