@@ -1,10 +1,12 @@
 -- What a run past the refusals comes to: the plain run's ending, and for a checked call one cycle test at a root, decide between the cells that the run left and those at entry.
 use mathlib.Core.Path.{_≡_, refl, sym, ap, subst, _∙_}
 use mathlib.Core.Bool.{Bool, true, false, not, _&&_, false≢true}
-use mathlib.Core.List.{List, [], _++_}
+use mathlib.Core.List.{List, _++_}
 use Prim.Native.Nat.{ℕ, _-_, _≤_}
 use native.Mathlib.Omega.{arith}
+use lib.Dec.{ltb}
 use lib.ListN.{length, getD, replicate}
+use borrow.Author.Tests.{ltb-false}
 use Rattle.store.specs.Store.{limit, termAt, WellFormed}
 use Rattle.store.specs.Steps.{term-used}
 use Rattle.store.specs.Zeros.{zeroed}
@@ -102,6 +104,23 @@ module _ (checked : Bool) (s : State) (work : List ℕ) (a b : ℕ) (p : Passed 
     -- the test after the run, where the call is checked
     abbrev accepts : Bool
     accepts = ok && not (checked && cyclicAt cells (s .top) a)
+
+    -- it did not reach one before, so the test may be left out where nothing was bound
+    pub still-accepts : {v : Bool} → v ≡ (ok && not (checked && ltb (s .trailed) trailed && cyclicAt cells (s .top) a)) → v ≡ accepts
+    unfolding unbind
+    still-accepts e = e ∙ ap (λ (x : Bool). ok && not x) (go checked (p .acyclic) (ltb (s .trailed) trailed) refl)
+      where
+        unbound-same : ltb (s .trailed) trailed ≡ false → cells ≡ s .cells
+        unbound-same f =
+            let n : trailed - s .trailed ≡ 0 = omega (arith, ltb-false (s .trailed) trailed f) in
+            let h = asked-store s work a b (p .asked) .room in
+            let z = l .wrote .cells-size in
+            cells-back s cells trail trailed (l .wrote) (omega arith) cells (rw n)
+
+        go : (c : Bool) → (c ≡ true → Straight s a b) → (x : Bool) → ltb (s .trailed) trailed ≡ x → (c && x && cyclicAt cells (s .top) a) ≡ (c && cyclicAt cells (s .top) a)
+        go false q x f = refl
+        go true q true f = refl
+        go true q false f = sym (ap (λ (c : List ℕ). cyclicAt c (s .top) a) (unbound-same f) ∙ q refl .0)
 
     ends-kept : accepts ≡ true → answered s work (unified checked s a b) ≡ kept
     ends-kept = go checked ok (p .acyclic) (l .ended) (cyclicAt cells (s .top) a) refl

@@ -118,17 +118,21 @@ fn checked_check(
 }
 
 // Whether the answer is yes: of a checked call only where the root reaches no cycle after the run.
-fn accepted(cells: &[u64], top: usize, a: usize, ok: bool, checked: bool) -> bool
+// It did not before, so there is nothing to test where nothing was bound.
+fn accepted(cells: &[u64], top: usize, a: usize, ok: bool, checked: bool, bound: bool) -> bool
     requires { ⌜ (ok ≡ true → WellFormed (now cells) top × (termAt (now cells) top a ≡ true)) ⌝ }
-    ensures { λ r. ⌜ r ≡ (ok && not (checked && cyclicAt (now (cells .entry)) top a)) ⌝ }
+    ensures { λ r. ⌜ r ≡ (ok && not (checked && bound && cyclicAt (now (cells .entry)) top a)) ⌝ }
 {
     if !ok {
         return false;
     }
-    if checked {
-        return !cycle::cyclic(cells, top, a);
+    if !checked {
+        return true;
     }
-    true
+    if !bound {
+        return true;
+    }
+    !cycle::cyclic(cells, top, a)
 }
 
 // The bindings that are trailed from a place to another are taken back.
@@ -160,7 +164,7 @@ fn settle(
     let to = run.trailed;
     let n = chains::work_need(top);
     chains::clear(work, n);
-    if accepted(cells, top, a, run.ok, checked) {
+    if accepted(cells, top, a, run.ok, checked, from < to) {
         *trailed = to;
         return Unified::Yes;
     }

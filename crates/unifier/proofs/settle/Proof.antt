@@ -1,6 +1,6 @@
 -- `unifier::settle` meets its contract: the run's ending and the test after it decide whether what the run left stays. Assumes nothing.
 use native.Mathlib.Omega.{arith}
-use Rattle.unifier.specs.Settling.{begins, yes-store, undoable, settled-yes, settled-no}
+use Rattle.unifier.specs.Settling.{begins, yes-store, undoable, still-accepts, settled-yes, settled-no}
 use borrow.Author.Needs.{needs}
 use Rattle.unifier.proofs.settle.Statement.{statement}
 use Rattle.unifier.proofs.settle.Tie as tie
@@ -49,7 +49,7 @@ returns c =
     let d = c .before in
     let n = counted d in
     let r = ran n in
-    settled-yes _ _ _ _ _ (begin r .pre) _ _ _ _ _ (r .unify-internal .ensures) _ _ (n .work-need .ensures) (d .before .before .before .before .clear .ensures) _ (d .accepted .ensures) (c .if1 .taken)
+    settled-yes _ _ _ _ _ (begin r .pre) _ _ _ _ _ (r .unify-internal .ensures) _ _ (n .work-need .ensures) (d .before .before .before .before .clear .ensures) _ (still-accepts _ _ _ _ _ (begin r .pre) _ _ _ _ _ (r .unify-internal .ensures) (d .accepted .ensures)) (c .if1 .taken)
 
 undo-requires : tie.Need-undo-requires
 undo-requires c κs =
@@ -72,7 +72,7 @@ returns-2 c =
     let d = e .before in
     let n = counted d in
     let r = ran n in
-    settled-no _ _ _ _ _ (begin r .pre) _ _ _ _ _ (r .unify-internal .ensures) _ _ (n .work-need .ensures) (d .before .before .before .before .clear .ensures) _ (d .accepted .ensures) (e .if1 .left) _ _ (u .undo .ensures .0) (u .undo .ensures .1)
+    settled-no _ _ _ _ _ (begin r .pre) _ _ _ _ _ (r .unify-internal .ensures) _ _ (n .work-need .ensures) (d .before .before .before .before .clear .ensures) _ (still-accepts _ _ _ _ _ (begin r .pre) _ _ _ _ _ (r .unify-internal .ensures) (d .accepted .ensures)) (e .if1 .left) _ _ (u .undo .ensures .0) (u .undo .ensures .1)
 
 pub settle-spec : {M : Type 1} → statement M
 settle-spec =
