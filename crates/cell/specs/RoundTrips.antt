@@ -1,4 +1,4 @@
--- From a kind to its word and back, and from a word to its kind and back; the three words that the layout's document gives.
+-- From a kind to its word and back, and from a word to its kind and back; three example words.
 use mathlib.Core.Path.{_≡_, refl, sym, ap, subst, _∙_}
 use mathlib.Core.Bool.{Bool, true, false, cond, false≢true}
 use Prim.Native.Nat.{ℕ, _+_, _*_, _/_, _-_, _^_, _<_}
@@ -62,7 +62,7 @@ kind-proper w =
     (λ r s _. omega arith)
     (λ r _. number-in (valueOf w) (omega arith))
 
--- ---- the document's words
+-- ---- example words
 var-three : kindOf 0x0400000000000003 ≡ Var 3
 unfolding kindOf byTag
 var-three = refl

@@ -1,8 +1,8 @@
 // A cell is a 64-bit word: value in bits 0 to 55, mark bit 56, forwarding bit 57, tag 58 to 63.
 // This crate splits a word by shifts and masks, says what it means, and builds it again. It also
-// holds the refusals of every public call, and the first such call, the making of a number cell.
+// holds the refusals of every public call, and makes number cells.
 ghost use mathlib.Core.Path.{_≡_};
-ghost use Prim.Native.Nat.{ℕ, _+_, _*_, _^_, _<_};
+ghost use Prim.Native.Nat.{_+_, _*_, _^_, _<_};
 ghost use lib.ListN.{length, getD};
 ghost use Rattle.cell.specs.Word.{tagOf, forwardOf, markOf, valueOf, nameOf, arityOf, spareOf, arityBits, wordOf, varWord};
 ghost use Rattle.cell.specs.Fixnum.{toNumber};

@@ -27,11 +27,10 @@ pub data Onward (s : List ℕ) : ℕ → ℕ → Type 0 where
 pub record Hops (s : List ℕ) (top : ℕ) (hops : List ℕ) : Type 0 where
   pub ahead : (i : ℕ) → 1 ≤ i → i < top → (getD hops i 0 ≡ 0 → ⊥) → Ahead s i (getD hops i 0)
 
--- what following leaves of them: they are true still, and no other word has changed, neither the first nor one from `top` on
+-- what following leaves of them: they are true still, and no word from `top` on has changed
 pub record Hopped (s : List ℕ) (top : ℕ) (old new : List ℕ) : Type 0 where
   pub hops : Hops s top new
   pub long : length new ≡ length old
-  pub first : getD new 0 0 ≡ getD old 0 0
   pub rest : (j : ℕ) → top ≤ j → getD new j 0 ≡ getD old j 0
 
 -- how many of n steps move before one stays

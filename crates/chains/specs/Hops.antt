@@ -1,16 +1,15 @@
 -- Laws of chains, of what is remembered along them, and of following by it.
 use mathlib.Core.Path.{_≡_, refl, sym, ap, subst, _∙_}
 use mathlib.Core.List.{List}
-use Prim.Native.Nat.{ℕ, zero, suc, _+_, _<_, _≤_}
+use Prim.Native.Nat.{ℕ, zero, suc, _<_, _≤_}
 use native.Mathlib.Omega.{arith}
 use native.Mathlib.Decide.{ℕ-discrete}
 use lib.ListN.{length, getD, set, length-set}
 use lib.Seq.{getD-set-same, getD-set-other}
 use borrow.Author.Tests.{eq-eqb, ne-eqb}
-use Rattle.cell.specs.Kinds.{kindOf}
-use Rattle.store.specs.Store.{step, stepKind, steps, endOf, WellFormed}
-use Rattle.store.specs.Steps.{step-used, steps-fixed}
-use Rattle.store.specs.Ends.{steps-add}
+use Rattle.store.specs.Store.{step, steps, endOf, WellFormed}
+use Rattle.store.specs.Steps.{step-used, steps-fixed, same-step}
+use Rattle.store.specs.Ends.{end-next}
 use Rattle.store.specs.WellFormed.{keeps-cells, end-stays}
 use Rattle.chains.specs.Chains.{Chained, Ahead, next, later, Onward, stays, goes, Hops, Hopped, left}
 
@@ -43,10 +42,7 @@ module _ {s : List ℕ} where
 module _ (s : List ℕ) (top : ℕ) (ch : Chained s top) where
   -- following from the next cell ends where following ends
   pub next-end : (i : ℕ) → 1 ≤ i → i < top → endOf s top (step s i) ≡ endOf s top i
-  unfolding steps
-  next-end i l h =
-      let z : 1 + top ≡ top + 1 = omega arith in
-      sym (steps-add s 1 top i) ∙ ap (λ (n : ℕ). steps s n i) z ∙ steps-add s top 1 i ∙ ch .ends i l h
+  next-end i l h = end-next s top i (ch .ends i l h)
 
   pub ahead-end : {i j : ℕ} → Ahead s i j → 1 ≤ i → i < top → endOf s top j ≡ endOf s top i
   ahead-end {i} (next n) l h = next-end i l h
@@ -126,7 +122,7 @@ pub record Following (s : List ℕ) (top at : ℕ) (old new : List ℕ) (cur far
 
 module _ (s : List ℕ) (top at : ℕ) (old : List ℕ) (ch : Chained s top) (room : top ≤ length old) where
   pub follow-start : (far : ℕ) → 1 ≤ at → at < top → Hops s top old → Onward s at far → Following s top at old old at far
-  follow-start far l g h o = record { low = l; high = g; same = refl; look = o; left = record { hops = h; long = refl; first = refl; rest = λ j _. refl } }
+  follow-start far l g h o = record { low = l; high = g; same = refl; look = o; left = record { hops = h; long = refl; rest = λ j _. refl } }
 
   module _ (new : List ℕ) (cur far : ℕ) (f : Following s top at old new cur far) where
     pub far-used : (1 ≤ far) × (far < top)
@@ -162,7 +158,6 @@ module _ (s : List ℕ) (top at : ℕ) (old : List ℕ) (ch : Chained s top) (ro
             left = record {
               hops = follow-hops;
               long = length-set new cur next ∙ f .left .long;
-              first = getD-set-other new cur 0 next 0 (λ z. omega arith) ∙ f .left .first;
               rest = λ j g. getD-set-other new cur j next 0 (λ z. omega arith) ∙ f .left .rest j g;
             };
           }
@@ -172,25 +167,21 @@ module _ (s : List ℕ) (top at : ℕ) (old : List ℕ) (ch : Chained s top) (ro
 
 -- a list that agrees below `top`
 module _ (s t : List ℕ) (top : ℕ) (ch : Chained s top) (same : (j : ℕ) → j < top → getD t j 0 ≡ getD s j 0) where
-  pub same-step : (i : ℕ) → i < top → step t i ≡ step s i
-  unfolding step
-  same-step i h = ap (λ (w : ℕ). stepKind i (kindOf w)) (same i h)
-
   pub same-steps : (n i : ℕ) → 1 ≤ i → i < top → (steps t n i ≡ steps s n i) × (steps s n i < top)
   unfolding steps
   same-steps zero i l h = (refl, h)
   same-steps (suc n) i l h =
       let u = ch .used i l h in
       let r = same-steps n (step s i) (u .0) (u .1) in
-      (ap (steps t n) (same-step i h) ∙ r .0, r .1)
+      (ap (steps t n) (same-step s t i (same i h)) ∙ r .0, r .1)
 
   pub same-chained : top ≤ length t → Chained t top
   same-chained r =
       record {
         room = r;
-        used = λ i l h. rw (same-step i h) (ch .used i l h);
-        ends = λ i l h. let e = same-steps top i l h in ap (step t) (e .0) ∙ same-step _ (e .1) ∙ ch .ends i l h ∙ sym (e .0);
+        used = λ i l h. rw (same-step s t i (same i h)) (ch .used i l h);
+        ends = λ i l h. let e = same-steps top i l h in ap (step t) (e .0) ∙ same-step s t _ (same _ (e .1)) ∙ ch .ends i l h ∙ sym (e .0);
       }
 
   pub same-hops : {hops : List ℕ} → Hops s top hops → Hops t top hops
-  same-hops h = hops-over h t (λ i l b n. same-step i b) ch
+  same-hops h = hops-over h t (λ i l b n. same-step s t i (same i b)) ch

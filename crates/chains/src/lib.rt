@@ -2,7 +2,7 @@
 // cell, a cell further along its chain, so that many cells that lead into one long chain are followed
 // in near-linear time in all.
 ghost use mathlib.Core.Path.{_≡_};
-ghost use Prim.Native.Nat.{ℕ, _<_, _≤_};
+ghost use Prim.Native.Nat.{_<_, _≤_};
 ghost use lib.ListN.{length};
 ghost use Rattle.store.specs.Store.{limit, endOf};
 ghost use Rattle.chains.specs.Chains.{Chained, Onward, Hops, Hopped};

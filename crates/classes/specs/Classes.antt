@@ -63,7 +63,7 @@ classes-kept w w′ top f l kept c =
           unique p (kept i (a .0) hi (a .1)) ∙ c .back i j _ _ hi hj (a .1) (b .1) e ∙ unique (kept j (b .0) hj (b .1)) q;
     }
 
--- a cell names its class before exactly if it does after
+-- a cell that names its class after did so before
 pub names-kept : (w w′ : List ℕ) (top : ℕ) → Lower w top → Keeps w top w′ → (k : ℕ) → k < top → getD w′ k 0 ≡ k → getD w k 0 ≡ k
 names-kept w w′ top l kept k h e =
     let r = root-of w top l k h in

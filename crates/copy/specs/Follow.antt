@@ -10,19 +10,14 @@ use Rattle.cell.specs.Kinds.{kindOf}
 use Rattle.cell.specs.declared.Kind.{Kind}
 use Rattle.cell.specs.declared.Kind.the-variants.{Var, Str, Lis, Atom, Fixnum, Bad}
 use Rattle.store.specs.Store.{kindAt, keeps, step, stepKind, steps, WellFormed}
-use Rattle.store.specs.Steps.{step-used, term-used}
-use Rattle.store.specs.WellFormed.{keeps-cells, end-stays}
+use Rattle.store.specs.Steps.{term-used}
+use Rattle.store.specs.WellFormed.{end-stays, steps-in}
 use Rattle.cycle.specs.Graph.{Reach, here, bound, join, one}
 use Rattle.cycle.specs.Kids.{arityAt, arityKind, run-used, str-used, lis-terms}
 use Rattle.chains.specs.Hops.{chained, same-steps}
 use Rattle.copy.specs.Rules.{endKind, endWord}
 
 module _ (s : List ℕ) (top : ℕ) (wf : WellFormed s top) where
-  pub steps-used : (n v : ℕ) → 1 ≤ v → v < top → (1 ≤ steps s n v) × (steps s n v < top)
-  unfolding steps
-  steps-used zero v l h = (l, h)
-  steps-used (suc n) v l h = let u = step-used s top (keeps-cells s top wf) v l h in steps-used n (step s v) (u .0) (u .1)
-
   module _ (cells : List ℕ) (agree : (j : ℕ) → j < top → getD cells j 0 ≡ getD s j 0) where
     pub kind-agree : (j : ℕ) → j < top → kindAt cells j ≡ kindAt s j
     kind-agree j h = ap kindOf (agree j h)
@@ -38,7 +33,7 @@ module _ (s : List ℕ) (top : ℕ) (wf : WellFormed s top) where
         go : (k : Kind) → ((v : ℕ) → k ≡ Var v → (1 ≤ v) × (v < top)) → endKind cells top w k ≡ endKind s top w k
         go (Var v) g =
             let u = g v refl in
-            let t = steps-used top v (u .0) (u .1) in
+            let t = steps-in s top wf top v (u .0) (u .1) in
             ap (λ (j : ℕ). getD cells j 0) (same-steps s cells top (chained s top wf) agree top v (u .0) (u .1) .0) ∙ agree (steps s top v) (t .1)
         go (Str v) g = refl
         go (Lis v) g = refl
@@ -83,7 +78,7 @@ module _ (s : List ℕ) (top : ℕ) (wf : WellFormed s top) where
       go : (k : Kind) → kindAt s x ≡ k → AtEnd x
       go (Var v) e =
           let u = var-used x v l h e in
-          let t = steps-used top v (u .0) (u .1) in
+          let t = steps-in s top wf top v (u .0) (u .1) in
           record {
             cell = steps s top v;
             from = t .0;

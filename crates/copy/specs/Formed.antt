@@ -5,7 +5,7 @@ use mathlib.Core.List.{List}
 use mathlib.Core.Logic.{inl, inr}
 use Prim.Native.Nat.{ℕ, zero, suc, _+_, _-_, _<_, _≤_}
 use native.Mathlib.Omega.{arith}
-use native.Mathlib.Decide.{ℕ-discrete, decLt}
+use native.Mathlib.Decide.{decLt}
 use lib.ListN.{getD}
 use lib.Dec.{leb, ltb}
 use borrow.Author.Tests.{lt-ltb, le-leb}
@@ -17,7 +17,7 @@ use Rattle.store.specs.Store.{kindAt, isHeader, isAtom, noHeader, termAt, atomA
 use Rattle.store.specs.Steps.{step-used}
 use Rattle.store.specs.WellFormed.{keeps-cells}
 use Rattle.store.specs.Over.{old-keep, old-ends}
-use Rattle.cycle.specs.Kids.{arityAt, run-term, lis-terms, atom-arity}
+use Rattle.cycle.specs.Kids.{arityKind, arityAt, no-arguments, run-term, lis-terms, atom-arity}
 use Rattle.cycle.specs.Reached.{LisReached}
 use Rattle.copy.specs.Inv.{Given, From, Match, End, Inv}
 use Rattle.copy.specs.Steps.{used, within, from-root}
@@ -120,16 +120,12 @@ module _ {s : List ℕ} {top root : ℕ} (gv : Given s top root) {cells tables :
   header-atom (Fixnum z) h = sym h
   header-atom Bad h = sym h
 
-  no-arity : (n a : ℕ) → not (isHeader (Atom n a)) ≡ true → a ≡ 0
-  unfolding isHeader
-  no-arity n a h = elim (ℕ-discrete a 0) [ yes e ↦ e | no e ↦ absurd (false≢true (ap not (sym (lt-ltb 0 a (omega arith))) ∙ h)) ]
-
   home-plain : (h : ℕ) → kindAt cells h ≡ Var h → noHeader cells h ≡ true
   unfolding isHeader
   home-plain h e = ap (λ (k : Kind). not (isHeader k)) e
 
   keep-new : (q x : ℕ) → From s top root tables q x → keepsAt cells end q ≡ true
-  unfolding Match keeps
+  unfolding Match keeps arityKind
   keep-new q x f = go (kindOf (End s top root x)) refl (I .done q x f (bq .1))
     where
       bq : (top ≤ q) × (q < end)
@@ -141,7 +137,7 @@ module _ {s : List ℕ} {top root : ℕ} (gv : Given s top root) {cells tables :
       atom : (n a : ℕ) → kindOf (End s top root x) ≡ Atom n a → (b : Bool) → noHeader s x ≡ b → keeps cells end q (Atom n a) ≡ true
       atom n a e true h =
           let u = uses q x f in
-          let z = no-arity n a (ap (λ (k : Kind). not (isHeader k)) (sym e) ∙ end-plain x (u .0) (u .1) h) in
+          let z : a ≡ 0 = sym (ap arityKind e) ∙ no-arguments _ (end-plain x (u .0) (u .1) h) in
           let y = bq in
           let b = y .1 in
           run-made cells end q a (omega arith) (λ i c d. absurd (omega arith))

@@ -1,13 +1,13 @@
 -- The rules of a copy keep what specs/Meaning.antt says; and so does each call that makes one.
 use mathlib.Core.Path.{_≡_, refl, sym, ap, subst, _∙_}
-use mathlib.Core.Bool.{Bool, true, false, not, _&&_, and-eq-true-iff}
+use mathlib.Core.Bool.{Bool, true, false, _&&_}
 use mathlib.Core.List.{List}
 use mathlib.Core.Logic.{inl}
-use Prim.Native.Nat.{ℕ, _+_, _<_, _≤_}
+use Prim.Native.Nat.{ℕ, _+_}
 use native.Mathlib.Omega.{arith}
 use lib.ListN.{length, getD}
-use lib.Dec.{leb, ltb}
-use borrow.Author.Tests.{leb-true, lt-ltb}
+use lib.Dec.{leb}
+use borrow.Author.Tests.{leb-true}
 use Rattle.cell.specs.declared.Kind.{Kind}
 use Rattle.cell.specs.declared.Kind.the-variants.{Var, Str, Lis, Atom, Fixnum, Bad}
 use Rattle.cell.specs.Kinds.{kindOf}
@@ -18,8 +18,7 @@ use Rattle.store.specs.WellFormed.{parts}
 use Rattle.trail.specs.declared.Answer.{Answer}
 use Rattle.trail.specs.declared.Answer.the-variants.{Done, Refused}
 use Rattle.trail.specs.State.{done, refused, need, _then_, unless}
-use Rattle.trail.specs.Rules.{unboundAt, namesBound}
-use Rattle.trail.specs.Facts.{TrailGood, MarksGood, bound-used}
+use Rattle.trail.specs.Facts.{trail-over, marks-over}
 use Rattle.cycle.specs.Graph.{Cyclic}
 use Rattle.cycle.specs.Room.{roomOf}
 use Rattle.chains.specs.Work.{workNeed, cleared}
@@ -33,28 +32,6 @@ use Rattle.copy.specs.Meaning.{Shown, NamesNew, renamed, Copy}
 use Rattle.copy.specs.Same.{at, below, str-run, lis-run, shaped, root-agrees, var-fresh, var-apart, exact-room}
 use Rattle.copy.specs.Formed.{formed}
 use Rattle.copy.specs.Finite.{from-stands}
-
--- ---- a trail and marks, where the old cells are the same and the count has grown
-module _ (s c : List ℕ) (top end : ℕ) (more : top ≤ end) (same : (j : ℕ) → j < top → getD c j 0 ≡ getD s j 0) where
-  still-bound : (e : ℕ) → namesBound s top e ≡ true → namesBound c end e ≡ true
-  unfolding namesBound
-  still-bound e h =
-      let u = bound-used s top e h in
-      let l = u .1 in
-      let a = and-eq-true-iff (leb 1 e && ltb e top) (not (unboundAt s e)) .0 h in
-      let b = and-eq-true-iff (leb 1 e) (ltb e top) .0 (a .0) in
-      rw (b .0, lt-ltb e end (omega arith), same e (u .1)) (a .1)
-
-  pub trail-kept : (trail : List ℕ) (trailed : ℕ) → TrailGood s top trail trailed → TrailGood c end trail trailed
-  trail-kept trail trailed t = record { fits = t .fits; bound = λ i h. still-bound (getD trail i 0) (t .bound i h); apart = t .apart; rest = t .rest }
-
-  pub marks-kept : (trailed : ℕ) (marks : List ℕ) (marked : ℕ) → MarksGood top trailed marks marked → MarksGood end trailed marks marked
-  marks-kept trailed marks marked g =
-      record {
-        fits = g .fits;
-        each = λ i h. let m = g .each i h in let w = m .top-within in record { top-rises = m .top-rises; trail-rises = m .trail-rises; top-within = omega arith; trail-within = m .trail-within };
-        rest = g .rest;
-      }
 
 module _ {s : List ℕ} {top root : ℕ} (gv : Given s top root) where
   module _ {cells tables : List ℕ} {end : ℕ} (I : Inv s top root cells tables end end) where
@@ -86,8 +63,8 @@ module _ {s : List ℕ} {top root : ℕ} (gv : Given s top root) where
           same = root-agrees gv I;
           finite = λ t. from-stands gv I t top root (inl (refl, refl));
           well-formed = formed gv I;
-          trail-good = trail-kept s cells top end (omega arith) (I .agree);
-          marks-good = marks-kept s cells top end (omega arith) (I .agree);
+          trail-good = λ trail trailed. trail-over s cells top end trail trailed (omega arith) (I .agree);
+          marks-good = λ trailed marks marked. marks-over top end trailed marks marked (omega arith);
         }
 
   -- what the rules compute is a copy

@@ -90,12 +90,6 @@ module _ {s : List ℕ} {top root : ℕ} (gv : Given s top root) where
     pub same-end : (x y : ℕ) → From s top root tables p x → From s top root tables p y → End s top root x ≡ End s top root y
     same-end x y f g = sym (word-is x f) ∙ word-is y g
 
-    abbrev Now : State → Type 0
-    Now t = Inv s top root (t .cells) (t .tables) (t .end) p
-
-    abbrev Next : State → Type 0
-    Next t = Inv s top root (t .cells) (t .tables) (t .end) (p + 1)
-
     -- after `run` the table has the run, and p stands as it did
     pub record Ran (t : State) (i : ℕ) : Type 0 where
       pub inv : Inv s top root (t .cells) (t .tables) (t .end) p
@@ -132,8 +126,8 @@ module _ {s : List ℕ} {top root : ℕ} (gv : Given s top root) {cells tables :
   abbrev State0 : State
   State0 = record { cells = cells; tables = tables; end = end }
 
-  abbrev Next0 : State → Type 0
-  Next0 t = Inv s top root (t .cells) (t .tables) (t .end) (p + 1)
+  abbrev Next : State → Type 0
+  Next t = Inv s top root (t .cells) (t .tables) (t .end) (p + 1)
 
   -- the run is there: p names it
   module _ (x i : ℕ) (f : From s top root tables p x) (t : State) (r : Ran gv I t i) where
@@ -149,14 +143,14 @@ module _ {s : List ℕ} {top root : ℕ} (gv : Given s top root) {cells tables :
         fill gv (r .inv) (r .more) w (o .0) k (o .1) (ap kindOf (o .2) ∙ e) (m (End s top root (o .0)))
 
   module _ (x : ℕ) (f : From s top root tables p x) where
-    on-str : (b : ℕ) → kindOf (End s top root x) ≡ Str b → Good s top (gv .wf) x (Str b) → Next0 (act top State0 p (End s top root x) (Str b))
+    on-str : (b : ℕ) → kindOf (End s top root x) ≡ Str b → Good s top (gv .wf) x (Str b) → Next (act top State0 p (End s top root x) (Str b))
     unfolding act put Good Match
     on-str b e (l, u, c) =
         let g = arity-agree s top (gv .wf) cells (I .agree) b (omega arith) in
         let r = ran gv I h b b (1 + arityAt s b) (inl (refl, refl, str-there gv I p x b f e c)) l u in
         rw g (name x b f (run State0 b b (1 + arityAt s b)) r _ (Str b) e (λ v. (omega arith, r .has, refl)))
 
-    on-lis : (b : ℕ) → kindOf (End s top root x) ≡ Lis b → Good s top (gv .wf) x (Lis b) → Next0 (act top State0 p (End s top root x) (Lis b))
+    on-lis : (b : ℕ) → kindOf (End s top root x) ≡ Lis b → Good s top (gv .wf) x (Lis b) → Next (act top State0 p (End s top root x) (Lis b))
     unfolding act put Good Match
     on-lis b e (l, u, c) =
         let r = ran gv I h (top + b) b 2 (inr (refl, refl, lis-there gv I p x b f e c)) l u in
@@ -191,11 +185,11 @@ module _ {s : List ℕ} {top root : ℕ} (gv : Given s top root) {cells tables :
           low-run b g n (a, c, inl (d, m)) o r = (a, c, inl (sym (o (λ y. omega arith)) ∙ d, m))
           low-run b g n (a, c, inr (d, m)) o r = (a, c, inr (sym (r (λ y. omega arith)) ∙ d, m))
 
-      on-var : Next0 (act top State0 p (End s top root x) (Var v))
+      on-var : Next (act top State0 p (End s top root x) (Var v))
       unfolding act put homed Good Match
       on-var = elim (ℕ-discrete (getD tables (top + top + v) 0) 0) [ yes z ↦ rw (eq-eqb (getD tables (top + top + v) 0) 0 z) (new-home z) | no z ↦ rw (ne-eqb (getD tables (top + top + v) 0) 0 z) (fill gv I h _ x (Var v) f e (good .0, z, refl)) ]
 
-    acted : (k : Kind) → kindOf (End s top root x) ≡ k → Good s top (gv .wf) x k → Next0 (act top State0 p (End s top root x) k)
+    acted : (k : Kind) → kindOf (End s top root x) ≡ k → Good s top (gv .wf) x k → Next (act top State0 p (End s top root x) k)
     unfolding act put Good Match
     acted (Var v) e g = on-var v e g
     acted (Str b) e g = on-str b e g
@@ -204,11 +198,11 @@ module _ {s : List ℕ} {top root : ℕ} (gv : Given s top root) {cells tables :
     acted (Fixnum z) e g = on-plain (Fixnum z) e refl
     acted Bad e g = absurd g
 
-  pub stepped : Next0 (scanned top State0 p)
+  pub stepped : Next (scanned top State0 p)
   unfolding scanned
   stepped =
       let ab = I .above in
       let c = I .cover p ab h in
       let u = used gv I p (c .0) (c .1) in
-      subst (λ (w : ℕ). Next0 (act top State0 p w (kindOf w))) (sym (word-is gv I (c .0) (c .1)))
+      subst (λ (w : ℕ). Next (act top State0 p w (kindOf w))) (sym (word-is gv I (c .0) (c .1)))
       (acted (c .0) (c .1) (kindOf (End s top root (c .0))) refl (end-good s top (gv .wf) (c .0) (u .0) (u .1)))

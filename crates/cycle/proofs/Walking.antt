@@ -48,7 +48,6 @@ module _ (s : List ℕ) (top n root : ℕ) (col₀ : List ℕ) where
     pub used : (j : ℕ) → j < sp → (1 ≤ getD st j 0) × (getD st j 0 < top)
     pub reach : (j : ℕ) → j < sp → Reaches (Link s) root (getD st j 0)
     pub path : (j : ℕ) → suc j < sp → Link s (getD st j 0) (getD st (suc j) 0)
-    pub small : (j : ℕ) → j < sp → getD at j 0 ≤ links s (getD st j 0)
     pub gone : (j : ℕ) → j < sp → (k : ℕ) → k < getD at j 0 → Past met (getD col (link s (getD st j 0) k) 0)
     -- the colours: cells on the path are met, and are those of colour 1
     pub met-all : (j : ℕ) → j < sp → getD col (getD st j 0) 0 ≡ 0 → ⊥
@@ -57,7 +56,6 @@ module _ (s : List ℕ) (top n root : ℕ) (col₀ : List ℕ) where
     pub room : sp + whites col ≤ n
     pub started : getD col root 0 ≡ 0 → ⊥
     -- finished cells
-    pub kept : (c : ℕ) → Done col₀ c → Done col c
     pub only : (c : ℕ) → Done col c → Done col₀ c ⊎ Reaches (Link s) root c
     pub closed : (c k : ℕ) → Done col c → k < links s c → Past met (getD col (link s c k) 0)
     -- the answer
@@ -91,14 +89,12 @@ module _ {s : List ℕ} {top : ℕ} {col nexts ends : List ℕ} (t : Tables s to
         used = λ j q. let z : j ≡ 0 = omega arith in rw (z, first) (l, b);
         reach = λ j q. let z : j ≡ 0 = omega arith in rw (z, first) here;
         path = λ j q. absurd (omega arith);
-        small = λ j q. let z : j ≡ 0 = omega arith in rw (z, getD-set-same at 0 0 0 (omega arith)) (omega arith);
         gone = λ j q k m. absurd (let z : j ≡ 0 = omega arith in let y : k < 0 = rw (z, getD-set-same at 0 0 0 (omega arith)) at m in omega arith);
         met-all = λ j q e. let z : j ≡ 0 = omega arith in let y : getD (set col root 1) root 0 ≡ 0 = rw (z, first) at e in let x = sym grey-root ∙ y in omega arith;
         colours = λ c. elim (ℕ-discrete c root) [ yes e ↦ rw (e, grey-root) (omega arith) | no e ↦ rw (other c e) (by c (t .colours c) .0) ];
         grey = λ c g. elim (ℕ-discrete c root) [ yes e ↦ (0, omega arith, first ∙ sym e) | no e ↦ absurd (by c (t .colours c) .1 (sym (other c e) ∙ g)) ];
         room = omega (arith, whites-lt col root 0 (omega arith) white, whites-all col);
         started = λ g. let z = sym grey-root ∙ g in omega arith;
-        kept = λ c d. d;
         only = λ c d. inl d;
         closed = λ c k d q. done (still (link s c k) (t .closed c (link s c k) (was c d) (k, q, refl)));
         yes-cyclic = λ e. absurd (false≢true e);
@@ -113,7 +109,6 @@ module _ {s : List ℕ} {top : ℕ} {col nexts ends : List ℕ} (t : Tables s to
   pub from-start : {col′ nexts′ ends′ : List ℕ} {met : Bool} → Walked s top root (set col root 1) col′ nexts′ ends′ met → Walked s top root col col′ nexts′ ends′ met
   from-start w = record {
     tables = w .tables;
-    kept = λ c d. w .kept c (still c d);
     reached = w .reached;
     only = λ c d. ⊎-elim (λ e. inl (was c e)) inr (w .only c d);
     yes-cyclic = w .yes-cyclic;
@@ -196,14 +191,12 @@ module _ {s : List ℕ} {top n root : ℕ} {col₀ col st at : List ℕ} {sp : �
         used = w .used;
         reach = w .reach;
         path = w .path;
-        small = λ i q. elim (ℕ-discrete i (sp - 1)) [ yes z ↦ rw (z, same) (omega arith) | no z ↦ rw (other i z) (w .small i q) ];
         gone = λ i q m b. elim (ℕ-discrete i (sp - 1)) [ yes z ↦ at-last i z m b same | no z ↦ up _ (w .gone i q m (rw (other i z) at b)) ];
         met-all = w .met-all;
         colours = w .colours;
         grey = w .grey;
         room = w .room;
         started = w .started;
-        kept = w .kept;
         only = w .only;
         closed = λ c m d q. up _ (w .closed c m d q);
         yes-cyclic = y;
@@ -268,14 +261,12 @@ module _ {s : List ℕ} {top n root : ℕ} {col₀ col st at : List ℕ} {sp : �
           used = λ i q. elim (ℕ-discrete i sp) [ yes z ↦ rw (z, new) u | no z ↦ rw (old i (omega arith)) (w .used i (omega arith)) ];
           reach = λ i q. elim (ℕ-discrete i sp) [ yes z ↦ rw (z, new) (join (w .reach (sp - 1) (omega arith)) (one to)) | no z ↦ rw (old i (omega arith)) (w .reach i (omega arith)) ];
           path = λ i q. elim (ℕ-discrete i (sp - 1)) [ yes z ↦ path-new i z h new (old i (omega arith)) | no z ↦ rw (old i (omega arith), old (suc i) (omega arith)) (w .path i (omega arith)) ];
-          small = λ i q. elim (ℕ-discrete i sp) [ yes z ↦ rw (z, getD-set-same at sp 0 0 (omega arith)) (omega arith) | no z ↦ rw (getD-set-other at sp i 0 0 z, old i (omega arith)) (w .small i (omega arith)) ];
           gone = λ i q k m. elim (ℕ-discrete i sp) [ yes z ↦ absurd (let y : k < 0 = rw (z, getD-set-same at sp 0 0 (omega arith)) at m in omega arith) | no z ↦ rw (old i (omega arith)) (past-push col c _ white (w .gone i (omega arith) k (rw (getD-set-other at sp i 0 0 z) at m))) ];
           met-all = λ i q e. elim (ℕ-discrete i sp) [ yes z ↦ (let y : getD (set col c 1) c 0 ≡ 0 = rw (z, new) at e in let x = sym grey ∙ y in omega arith) | no z ↦ still-met (getD st i 0) (w .met-all i (omega arith)) (rw (old i (omega arith)) at e) ];
           colours = λ d. elim (ℕ-discrete d c) [ yes z ↦ rw (z, grey) (omega arith) | no z ↦ rw (other d z) (w .colours d) ];
           grey = λ d y. elim (ℕ-discrete d c) [ yes z ↦ (sp, omega arith, new ∙ sym z) | no z ↦ keep d (w .grey d (sym (other d z) ∙ y)) old ];
           room = omega arith;
           started = λ y. elim (ℕ-discrete root c) [ yes z ↦ (let x = sym grey ∙ rw z at y in omega arith) | no z ↦ w .started (sym (other root z) ∙ y) ];
-          kept = λ d x. still d (w .kept d x);
           only = λ d x. w .only d (was d x);
           closed = λ d k x q. past-push col c (link s d k) white (w .closed d k (was d x) q);
           yes-cyclic = w .yes-cyclic;
@@ -315,14 +306,12 @@ module _ {s : List ℕ} {top n root : ℕ} {col₀ col st at : List ℕ} {sp : �
         used = λ m q. w .used m (omega arith);
         reach = λ m q. w .reach m (omega arith);
         path = λ m q. w .path m (omega arith);
-        small = λ m q. w .small m (omega arith);
         gone = λ m q k g. past-pop col i _ (omega arith) (w .gone m (omega arith) k g);
         met-all = λ m q e. elim (ℕ-discrete (getD st m 0) i) [ yes z ↦ (let x = sym same ∙ rw z at e in omega arith) | no z ↦ w .met-all m (omega arith) (sym (other (getD st m 0) z) ∙ e) ];
         colours = λ c. elim (ℕ-discrete c i) [ yes z ↦ rw (z, same) (omega arith) | no z ↦ rw (other c z) (w .colours c) ];
         grey = λ c g. elim (ℕ-discrete c i) [ yes z ↦ absurd (let x = sym same ∙ rw z at g in omega arith) | no z ↦ keep c z (w .grey c (sym (other c z) ∙ g)) ];
         room = omega arith;
         started = λ g. elim (ℕ-discrete root i) [ yes z ↦ (let x = sym same ∙ rw z at g in omega arith) | no z ↦ w .started (sym (other root z) ∙ g) ];
-        kept = λ c d. still c (w .kept c d);
         only = λ c d. elim (ℕ-discrete c i) [ yes z ↦ inr (rw z (w .reach (sp - 1) (omega arith))) | no z ↦ w .only c (sym (other c z) ∙ d) ];
         closed = λ c k d q. past-pop col i (link s c k) (omega arith) (elim (ℕ-discrete c i) [ yes z ↦ rw z (all k (rw z at q)) | no z ↦ w .closed c k (sym (other c z) ∙ d) q ]);
         yes-cyclic = w .yes-cyclic;
@@ -359,7 +348,6 @@ module _ {s : List ℕ} {top n root : ℕ} {col₀ col st at : List ℕ} {sp : �
       colours = λ c. elim (ℕ-discrete (getD col c 0) 0) [ yes z ↦ inl z | no z ↦ inr (two c z) ];
       closed = over-links;
     };
-    kept = w .kept;
     reached = λ c r. spread (Done col) r over-links (two root (w .started));
     only = w .only;
     yes-cyclic = w .yes-cyclic;
@@ -373,7 +361,6 @@ module _ {s : List ℕ} {top n root : ℕ} {col₀ col st at : List ℕ} {sp : �
 pub walked-before : {s : List ℕ} {top : ℕ} {col nexts ends : List ℕ} (root : ℕ) → Tables s top col nexts ends → (getD col root 0 ≡ 0 → ⊥) → Walked s top root col col nexts ends false
 walked-before {s} {col = col} root t n = record {
   tables = t;
-  kept = λ c d. d;
   reached = λ c r. spread (Done col) r (t .closed) (⊎-elim (λ e. absurd (n e)) (λ d. d) (t .colours root));
   only = λ c d. inl d;
   yes-cyclic = λ e. absurd (false≢true e);

@@ -20,8 +20,8 @@ use Rattle.cycle.specs.Verdict.{cyclicAt}
 use Rattle.cycle.specs.Cyclic.{false-acc, acc-false}
 use Rattle.cycle.specs.Room.{reaches, strReached, lisReached, runRoom, roomBy, roomOf, room-same, marked}
 use Rattle.cycle.specs.Reached.{found, finds, reach-used, true-str}
-use Rattle.cycle.specs.Bound.{named, room-le}
-use Rattle.cycle.specs.Met.{ifMet, ifNamed, metLinks, met-none, met-cover}
+use Rattle.cycle.specs.Bound.{ifNamed, named, room-le}
+use Rattle.cycle.specs.Met.{ifMet, metLinks, met-none, met-cover}
 use Rattle.cycle.specs.Tables.{Done, NoneMet, Names, Walked, none-done}
 
 module _ {s : List ℕ} {top root : ℕ} {col₀ col nexts ends : List ℕ} {met : Bool} (wf : WellFormed s top) (t : termAt s top root ≡ true) (w : Walked s top root col₀ col nexts ends met) where

@@ -12,6 +12,17 @@ use Rattle.cycle.specs.Sum.{sumFrom, sum-le, sum-once, sum-add, sum-last
 use Rattle.cycle.specs.Kids.{arityAt}
 use Rattle.cycle.specs.Room.{runRoom, roomFrom, roomBy}
 
+-- n, if f is a cell and not 0
+abbrev pub ifNamed : ℕ → ℕ → ℕ
+ifNamed n f = cond (eqb f 0) 0 n
+
+pub named-less : (n f : ℕ) → ifNamed n f ≤ n
+named-less n f = go (eqb f 0)
+  where
+    go : (b : Bool) → cond b 0 n ≤ n
+    go true = omega arith
+    go false = omega arith
+
 -- some of the first n names f
 abbrev pub named : (ℕ → ℕ) → ℕ → ℕ → Bool
 named g n f = someBelow n (λ x. eqb (g x) f)

@@ -1,11 +1,11 @@
 -- The edges of a cell by number: how many there are, and where each goes. And the runs that a cell names.
-use mathlib.Core.Path.{_≡_, refl, sym, ap, subst}
-use mathlib.Core.Bool.{true, cond, _&&_, and-eq-true-iff, false≢true}
+use mathlib.Core.Path.{_≡_, refl, sym, ap, subst, _∙_}
+use mathlib.Core.Bool.{true, cond, not, _&&_, and-eq-true-iff, false≢true}
 use mathlib.Core.List.{List}
 use Prim.Native.Nat.{ℕ, zero, suc, _+_, _<_, _≤_}
 use native.Mathlib.Omega.{arith}
 use lib.Dec.{eqb, leb, ltb}
-use borrow.Author.Tests.{eq-eqb, ne-eqb, ltb-true, leb-true, lt-ltb, le-leb}
+use borrow.Author.Tests.{eq-eqb, ne-eqb, ltb-true, ltb-false, leb-true, lt-ltb, le-leb, not-true}
 use Rattle.cell.specs.declared.Kind.{Kind}
 use Rattle.cell.specs.declared.Kind.the-variants.{Var, Str, Lis, Atom, Fixnum, Bad}
 use Rattle.store.specs.All.{allFrom, all-holds}
@@ -31,6 +31,9 @@ header-arity (Lis v) = refl
 header-arity (Atom n a) = refl
 header-arity (Fixnum z) = refl
 header-arity Bad = refl
+
+pub no-arguments : (k : Kind) → not (isHeader k) ≡ true → arityKind k ≡ 0
+no-arguments k h = let n = ltb-false 0 (arityKind k) (sym (header-arity k) ∙ not-true (isHeader k) h) in omega arith
 
 -- how many cells stand behind the cell at f
 unfoldable pub arityAt : List ℕ → ℕ → ℕ

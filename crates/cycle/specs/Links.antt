@@ -1,18 +1,18 @@
 -- The edges as a walk takes them: a Str leads to its functor cell, and this to each argument, so that a header's arguments are passed once however many Str cells name it. The links find the same cycles as the edges and reach the same cells, and functor cells besides.
 use mathlib.Core.Path.{_≡_, refl, sym, ap, _∙_}
-use mathlib.Core.Bool.{Bool, true, false, cond, not, _&&_, and-eq-true-iff, false≢true}
+use mathlib.Core.Bool.{Bool, true, false, cond, _&&_, and-eq-true-iff}
 use mathlib.Core.List.{List}
 use mathlib.Core.Logic.{_⊎_, inl, inr, ⊎-elim}
 use Prim.Native.Nat.{ℕ, _+_, _<_, _≤_}
 use native.Mathlib.Omega.{arith}
 use lib.Dec.{eqb, leb, ltb}
-use borrow.Author.Tests.{eq-eqb, ne-eqb, ltb-false}
+use borrow.Author.Tests.{eq-eqb, ne-eqb}
 use Rattle.cell.specs.declared.Kind.{Kind}
 use Rattle.cell.specs.declared.Kind.the-variants.{Var, Str, Lis, Atom, Fixnum, Bad}
-use Rattle.store.specs.Store.{kindAt, isHeader, noHeader, termAt, keeps, WellFormed}
+use Rattle.store.specs.Store.{kindAt, noHeader, termAt, keeps, WellFormed}
 use Rattle.store.specs.Steps.{term-used}
 use Rattle.cycle.specs.Graph.{Edge, bound, arg, first, second, Reaches, here, over, Reach, Accessible, acc, Acc, join, one, spread, acc-ind}
-use Rattle.cycle.specs.Kids.{arityKind, header-arity, arityAt, pair-edge, edge-kid, kid-term, run-used, str-used, str-atom, lis-terms, atom-arity}
+use Rattle.cycle.specs.Kids.{arityKind, arityAt, no-arguments, pair-edge, edge-kid, kid-term, run-used, str-used, str-atom, lis-terms, atom-arity}
 
 unfoldable pub linksKind : ℕ → Kind → ℕ
 linksKind i (Var v) = cond (eqb v i) 0 1
@@ -179,13 +179,6 @@ module _ (s : List ℕ) where
   reach-links (over e r) = join (edge-links e) (reach-links r)
 
 -- ---- from edges to links, for cells that stand for terms
-no-arguments : (k : Kind) → not (isHeader k) ≡ true → arityKind k ≡ 0
-no-arguments k h = let n = ltb-false 0 (arityKind k) (sym (header-arity k) ∙ not-true (isHeader k) h) in omega arith
-  where
-    not-true : (b : Bool) → not b ≡ true → b ≡ false
-    not-true true e = absurd (false≢true e)
-    not-true false e = refl
-
 module _ (s : List ℕ) (top : ℕ) (wf : WellFormed s top) where
   term-edge : (i j : ℕ) → termAt s top i ≡ true → Edge s i j → termAt s top j ≡ true
   term-edge i j t e =

@@ -1,4 +1,4 @@
--- The links of the cells that a walk has met, each cell's once: what it went over when it is done. A copy of all these cells needs no more room than 1 and their links: a structure's arguments are links of its functor cell, whose own place is the link of a Str, and the two cells of a pair are the links of a Lis.
+-- The links of the cells that a walk has met, each cell's once: what it went over when it is done. And why they are room enough for these cells' runs: a structure's arguments are links of its functor cell, whose own place is the link of a Str, and the two cells of a pair are the links of a Lis.
 use mathlib.Core.Path.{_≡_, refl}
 use mathlib.Core.Bool.{Bool, true, false, cond}
 use mathlib.Core.List.{List}
@@ -15,15 +15,12 @@ use Rattle.store.specs.Store.{kindAt}
 use Rattle.cycle.specs.Sum.{sumFrom, sum-same, sum-one}
 use Rattle.cycle.specs.Kids.{arityKind, arityAt, headKind, head, pairKind, pair}
 use Rattle.cycle.specs.Links.{linksKind, links}
+use Rattle.cycle.specs.Bound.{ifNamed, named-less}
 use Rattle.cycle.specs.Tables.{NoneMet}
 
 -- n, if the cell c is met: its colour is not 0
 abbrev pub ifMet : List ℕ → ℕ → ℕ → ℕ
 ifMet col c n = cond (eqb (getD col c 0) 0) 0 n
-
--- n, if f is a cell and not 0
-abbrev pub ifNamed : ℕ → ℕ → ℕ
-ifNamed n f = cond (eqb f 0) 0 n
 
 -- how many links the met cells have
 unfoldable pub metLinks : List ℕ → ℕ → List ℕ → ℕ
@@ -57,18 +54,14 @@ module _ (s : List ℕ) (top : ℕ) where
 
 -- ---- the links of a cell cover its arguments, if it is a functor cell, and 1 for the functor cell or 2 for the pair that it names
 module _ (s : List ℕ) where
-  less : (b : Bool) (x : ℕ) → cond b 0 x ≤ x
-  less true x = omega arith
-  less false x = omega arith
-
   links-cover : (i : ℕ) → arityAt s i + (ifNamed 1 (head s i) + ifNamed 2 (pair s i)) ≤ links s i
   unfolding links linksKind head headKind pair pairKind arityAt arityKind
   links-cover i = go (kindAt s i)
     where
       go : (q : Kind) → arityKind q + (ifNamed 1 (headKind q) + ifNamed 2 (pairKind q)) ≤ linksKind i q
       go (Var v) = omega arith
-      go (Str f) = let l = less (eqb f 0) 1 in omega arith
-      go (Lis m) = let l = less (eqb m 0) 2 in omega arith
+      go (Str f) = let l = named-less 1 f in omega arith
+      go (Lis m) = let l = named-less 2 m in omega arith
       go (Atom n a) = omega arith
       go (Fixnum z) = omega arith
       go Bad = omega arith

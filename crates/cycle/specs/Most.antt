@@ -15,7 +15,7 @@ use Rattle.cycle.specs.Some.{someBelow, some-true, some-holds}
 use Rattle.cycle.specs.Sum.{sumFrom, sum-done, sum-goes}
 use Rattle.cycle.specs.Kids.{arityKind, arityAt, headKind, head, pairKind, pair}
 use Rattle.cycle.specs.Room.{reaches, strReached, lisReached, runRoom, roomOf}
-use Rattle.cycle.specs.Bound.{named, room-le}
+use Rattle.cycle.specs.Bound.{ifNamed, named-less, named, room-le}
 
 unfoldable pub ownKind : List ℕ → Kind → ℕ
 ownKind s (Var v) = 0
@@ -57,10 +57,7 @@ module _ (s : List ℕ) where
   self f = cond (eqb (arityAt s f) 0) 0 (arityAt s f + 1)
 
   abbrev bare : ℕ → ℕ
-  bare f = cond (eqb f 0) 0 (cond (eqb (arityAt s f) 0) 1 0)
-
-  abbrev both : ℕ → ℕ
-  both f = cond (eqb f 0) 0 2
+  bare f = ifNamed (cond (eqb (arityAt s f) 0) 1 0) f
 
   counted : (str lis str′ lis′ : Bool) (a : ℕ) → (str ≡ true → str′ ≡ true) → (lis ≡ true → lis′ ≡ true) → runRoom str lis a ≤ cond (eqb a 0) 0 (a + 1) + (cond str′ (cond (eqb a 0) 1 0) 0 + cond lis′ 2 0)
   unfolding runRoom
@@ -74,18 +71,14 @@ module _ (s : List ℕ) where
       two true f = rw (f refl) (omega arith)
       two false f = omega arith
 
-  at-cell : (i : ℕ) → self i + (bare (head s i) + both (pair s i)) ≤ ownRoom s i
+  at-cell : (i : ℕ) → self i + (bare (head s i) + ifNamed 2 (pair s i)) ≤ ownRoom s i
   unfolding ownRoom ownKind head headKind pair pairKind arityAt arityKind
   at-cell i = go (kindAt s i)
     where
-      less : (b : Bool) (x : ℕ) → cond b 0 x ≤ x
-      less true x = omega arith
-      less false x = omega arith
-
-      go : (q : Kind) → cond (eqb (arityKind q) 0) 0 (arityKind q + 1) + (bare (headKind q) + both (pairKind q)) ≤ ownKind s q
+      go : (q : Kind) → cond (eqb (arityKind q) 0) 0 (arityKind q + 1) + (bare (headKind q) + ifNamed 2 (pairKind q)) ≤ ownKind s q
       go (Var v) = omega arith
-      go (Str f) = let l = less (eqb f 0) (cond (eqb (arityAt s f) 0) 1 0) in omega arith
-      go (Lis m) = let l = less (eqb m 0) 2 in omega arith
+      go (Str f) = let l = named-less (cond (eqb (arityAt s f) 0) 1 0) f in omega arith
+      go (Lis m) = let l = named-less 2 m in omega arith
       go (Atom n a) = omega arith
       go (Fixnum z) = omega arith
       go Bad = omega arith
@@ -100,8 +93,8 @@ module _ (s : List ℕ) where
     pub most-enough : roomOf s top root ≤ mostRoom s top
     unfolding roomOf strReached lisReached mostRoom ownFrom head headKind pair pairKind kindOf byTag
     most-enough =
-        room-le s top wf (strReached s top root) (lisReached s top root) self bare both (head s) (pair s) (ownRoom s)
+        room-le s top wf (strReached s top root) (lisReached s top root) self bare (ifNamed 2) (head s) (pair s) (ownRoom s)
         (λ f l. rw (ne-eqb f 0 (λ z. omega arith)) (counted (strReached s top root f) (lisReached s top root f) (named (head s) top f) (named (pair s) top f) (arityAt s f) (some-name (head s) f) (some-name (pair s) f)))
         (ap (λ (w : ℕ). bare (headKind (kindOf w))) (wf .zeroth))
-        (ap (λ (w : ℕ). both (pairKind (kindOf w))) (wf .zeroth))
+        (ap (λ (w : ℕ). ifNamed 2 (pairKind (kindOf w))) (wf .zeroth))
         at-cell

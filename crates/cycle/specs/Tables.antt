@@ -54,8 +54,7 @@ pub record Tables (s : List ℕ) (top : ℕ) (col nexts ends : List ℕ) : Type 
 -- what a walk from the root did, by the colours before and the tables after it, and what it answered
 pub record Walked (s : List ℕ) (top root : ℕ) (col₀ col nexts ends : List ℕ) (met : Bool) : Type 0 where
   pub tables : Tables s top col nexts ends
-  -- finished are the cells that were so before, and those that the root reaches
-  pub kept : (c : ℕ) → Done col₀ c → Done col c
+  -- finished are those that the root reaches, and else only cells that were so before
   pub reached : (c : ℕ) → Reaches (Link s) root c → Done col c
   pub only : (c : ℕ) → Done col c → Done col₀ c ⊎ Reaches (Link s) root c
   -- yes: the root reaches a cycle

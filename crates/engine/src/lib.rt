@@ -2,7 +2,6 @@
 // 0 where it answers and the number of the refusal where it refuses. Each contract says the returned
 // number, the answer and every lent word by the definition that the inner call is proved against.
 ghost use mathlib.Core.Path.{_≡_};
-ghost use Prim.Native.Nat.{ℕ};
 ghost use Rattle.cell.specs.Answers.{numberCell};
 ghost use Rattle.store.specs.Follow.{followed};
 ghost use Rattle.trail.specs.State.{stateOf, said, checkOf};

@@ -71,9 +71,6 @@ module _ (s u freed : List ℕ) (top t : ℕ) (wf : WellFormed s top) (within : 
   unfolding isHeader
   heads j l h = by-freed (λ (k : Kind). not (isHeader k) ≡ true) j l (λ _. refl) (λ _. h)
 
-  and-true : (a b : Bool) → a ≡ true → (a && b) ≡ b
-  and-true a b e = rw e
-
   term-left : (v : ℕ) → termAt s top v ≡ true → termAt u t v ≡ ltb v t
   unfolding termAt
   term-left v h =

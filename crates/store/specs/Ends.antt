@@ -5,8 +5,8 @@ use mathlib.Core.List.{List}
 use Prim.Native.Nat.{ℕ, zero, suc, _+_, _*_, _-_, _<_, _≤_}
 use native.Mathlib.Omega.{arith}
 use native.Mathlib.Nat.{zero-add, suc-add, zero-mul, suc-mul}
-use Rattle.store.specs.Store.{step, steps, Ends, cellsKeep}
-use Rattle.store.specs.Steps.{steps-fixed, step-used}
+use Rattle.store.specs.Store.{step, steps, endOf, Ends, cellsKeep}
+use Rattle.store.specs.Steps.{steps-fixed, steps-used}
 use Rattle.store.specs.Pigeon.{pigeon}
 
 module _ (s : List ℕ) where
@@ -14,6 +14,13 @@ module _ (s : List ℕ) where
   unfolding steps
   steps-add zero n i = rw zero-add
   steps-add (suc m) n i = rw suc-add (steps-add m n (step s i))
+
+  -- where following ends, it ends from the next cell too
+  pub end-next : (top i : ℕ) → step s (endOf s top i) ≡ endOf s top i → endOf s top (step s i) ≡ endOf s top i
+  unfolding steps
+  end-next top i e =
+      let z : 1 + top ≡ top + 1 = omega arith in
+      sym (steps-add 1 top i) ∙ ap (λ (n : ℕ). steps s n i) z ∙ steps-add top 1 i ∙ e
 
   -- past where it ends nothing moves
   later : (n m i : ℕ) → step s (steps s n i) ≡ steps s n i → n ≤ m → steps s m i ≡ steps s n i
@@ -27,18 +34,13 @@ module _ (s : List ℕ) where
   round i p e zero = rw zero-mul
   round i p e (suc k) = rw suc-mul (steps-add (k * p) p i ∙ ap (steps s p) (round i p e k) ∙ e)
 
-  used : (top : ℕ) → cellsKeep s 1 top ≡ true → (n i : ℕ) → 1 ≤ i → i < top → steps s n i < top
-  unfolding steps
-  used top all zero i l h = h
-  used top all (suc n) i l h = let u = step-used s top all i l h in used top all n (step s i) (u .0) (u .1)
-
   grows : (k p : ℕ) → 1 ≤ p → k ≤ k * p
   grows zero p h = omega arith
   grows (suc k) p h = let g = grows k p h in rw suc-mul (omega arith)
 
   pub ends-in : (top : ℕ) → cellsKeep s 1 top ≡ true → (i : ℕ) → 1 ≤ i → i < top → Ends s i → step s (steps s top i) ≡ steps s top i
   ends-in top all i l h (n, e) =
-      let t = pigeon top (λ (k : ℕ). steps s k i) (λ k _. used top all k i l h) in
+      let t = pigeon top (λ (k : ℕ). steps s k i) (λ k _. steps-used s top all k i l h .1) in
       let a = t .0 in
       let p = t .1 - t .0 in
       let below = t .2 in

@@ -11,7 +11,8 @@ use Rattle.cell.specs.declared.Kind.{Kind}
 use Rattle.cell.specs.declared.Kind.the-variants.{Var, Str, Lis, Atom, Fixnum, Bad}
 use Rattle.cell.specs.Kinds.{kindOf}
 use Rattle.store.specs.All.{allFrom, all-holds, all-true, all-skip}
-use Rattle.store.specs.Store.{limit, kindAt, isHeader, isAtom, noHeader, termAt, atomAt, runAt, keeps, keepsAt, step, stepKind, steps, Ends, endOf, endsAt, cellsKeep, cellsEnd, wellFormed, WellFormed}
+use Rattle.store.specs.Store.{limit, kindAt, isHeader, isAtom, noHeader, termAt, atomAt, runAt, keeps, keepsAt, step, steps, Ends, endOf, endsAt, cellsKeep, cellsEnd, wellFormed, WellFormed}
+use Rattle.store.specs.Steps.{same-step}
 use Rattle.store.specs.Ends.{ends-in}
 use Rattle.store.specs.Zeros.{zeros-back}
 use Rattle.store.specs.WellFormed.{along, the-rest}
@@ -66,17 +67,13 @@ module _ (s t : List ℕ) (top up : ℕ) (wf : WellFormed s top) (more : top ≤
       same-kind (λ (k : Kind). keeps t up i k ≡ true) i b
       (keeps-over s t top up more (same-kind (λ (k : Kind). not (isHeader k) ≡ true)) (same-kind (λ (k : Kind). isAtom k ≡ true)) i (kindAt s i) (wf .keep i a b))
 
-  same-step : (i : ℕ) → i < top → step t i ≡ step s i
-  unfolding step
-  same-step i l = ap (λ (w : ℕ). stepKind i (kindOf w)) (same i l)
-
   -- following still ends at each
   pub old-ends : (i : ℕ) → 1 ≤ i → i < top → Ends t i
   unfolding steps
   old-ends =
       along s top wf (Ends t)
-      (λ i a b e. (0, same-step i b ∙ e))
-      (λ i a b n p. let q = subst (Ends t) (sym (same-step i b)) p in (suc (q .0), q .1))
+      (λ i a b e. (0, same-step s t i (same i b) ∙ e))
+      (λ i a b n p. let q = subst (Ends t) (sym (same-step s t i (same i b))) p in (suc (q .0), q .1))
 
   -- so only the new cells have to be tested
   module _ (high : up ≤ limit) (room : up ≤ length t) (rest : (i : ℕ) → up ≤ i → getD t i 0 ≡ 0) where

@@ -4,8 +4,10 @@ use mathlib.Core.Bool.{true, _&&_, and-eq-true-iff}
 use mathlib.Core.List.{List}
 use Prim.Native.Nat.{ℕ, zero, suc, _+_, _-_, _<_, _≤_}
 use native.Mathlib.Omega.{arith}
+use lib.ListN.{getD}
 use lib.Dec.{leb, ltb, eqb}
 use borrow.Author.Tests.{ltb-true, leb-true}
+use Rattle.cell.specs.Kinds.{kindOf}
 use Rattle.cell.specs.declared.Kind.{Kind}
 use Rattle.cell.specs.declared.Kind.the-variants.{Var, Str, Lis, Atom, Fixnum, Bad}
 use Rattle.store.specs.All.{all-holds}
@@ -49,6 +51,16 @@ module _ (s : List ℕ) where
   pub step-used : (top : ℕ) → cellsKeep s 1 top ≡ true → (i : ℕ) → 1 ≤ i → i < top → (1 ≤ step s i) × (step s i < top)
   unfolding step
   step-used top all i l h = keeps-used top i l h (kindAt s i) (keeps-all top all i l h)
+
+  pub steps-used : (top : ℕ) → cellsKeep s 1 top ≡ true → (n i : ℕ) → 1 ≤ i → i < top → (1 ≤ steps s n i) × (steps s n i < top)
+  unfolding steps
+  steps-used top all zero i l h = (l, h)
+  steps-used top all (suc n) i l h = let u = step-used top all i l h in steps-used top all n (step s i) (u .0) (u .1)
+
+  -- a cell with the same word goes to the same cell
+  pub same-step : (t : List ℕ) (i : ℕ) → getD t i 0 ≡ getD s i 0 → step t i ≡ step s i
+  unfolding step
+  same-step t i e = ap (λ (w : ℕ). stepKind i (kindOf w)) e
 
   pub ends-is : (top at e n : ℕ) → e ≡ endOf s top at → n ≡ step s e → eqb n e ≡ endsAt s top at
   unfolding endsAt

@@ -10,7 +10,7 @@ use lib.Dec.{leb, eqb}
 use borrow.Author.Tests.{leb-true, eqb-true, lt-leb, le-leb, eq-eqb, ne-eqb}
 use Rattle.store.specs.All.{all-holds, all-true}
 use Rattle.store.specs.Store.{keepsAt, step, steps, endsAt, zeroFrom, cellsKeep, cellsEnd, wellFormed, WellFormed, Ends, endOf, limit}
-use Rattle.store.specs.Steps.{keeps-all, step-used}
+use Rattle.store.specs.Steps.{keeps-all, step-used, steps-used}
 use Rattle.store.specs.Ends.{ends-in}
 use Rattle.store.specs.Zeros.{zeros, zeros-back}
 
@@ -76,6 +76,10 @@ module _ (s : List ℕ) (top : ℕ) where
     -- following stays where `top` steps lead
     pub end-stays : (i : ℕ) → 1 ≤ i → i < top → step s (endOf s top i) ≡ endOf s top i
     end-stays i a b = ends-in s top keeps-cells i a b (w .ends i a b)
+
+    -- steps come to used cells
+    pub steps-in : (n i : ℕ) → 1 ≤ i → i < top → (1 ≤ steps s n i) × (steps s n i < top)
+    steps-in = steps-used s top keeps-cells
 
     pub whole : wellFormed s top ≡ true
     whole = sym (the-rest s top (w .low) (w .high) (w .room) (w .zeroth)) ∙ rw (zeros-back s top (w .rest), keeps-cells) ends-cells

@@ -4,7 +4,7 @@ ghost use mathlib.Core.Bool.{true, _&&_};
 ghost use Prim.Native.Nat.{ℕ, _+_, _<_, _≤_};
 ghost use lib.ListN.{length, getD};
 ghost use Rattle.cell.specs.Kinds.{kindOf};
-ghost use Rattle.store.specs.Store.{limit, kindAt, isHeader, isAtom, headerAt, termAt, atomAt, keeps, step, endOf, endsAt, zeroFrom, cellsKeep, cellsEnd, wellFormed, WellFormed};
+ghost use Rattle.store.specs.Store.{limit, kindAt, isHeader, isAtom, headerAt, termAt, atomAt, keeps, step, endOf, endsAt, zeroFrom, cellsKeep, cellsEnd, wellFormed};
 ghost use Rattle.store.specs.Survey.{keptOf, StandsAt};
 ghost use Rattle.store.specs.Zeros.{zeroed};
 ghost use Rattle.store.specs.Follow.{followed};

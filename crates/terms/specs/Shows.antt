@@ -9,9 +9,9 @@ use lib.Dec.{leb, ltb}
 use borrow.Author.Tests.{eq-eqb, ne-eqb, lt-ltb}
 use Rattle.cell.specs.declared.Kind.{Kind}
 use Rattle.cell.specs.declared.Kind.the-variants.{Var, Str, Lis, Atom, Fixnum, Bad}
-use Rattle.store.specs.Store.{kindAt, isHeader, noHeader, termAt, keeps, step, stepKind, steps, endOf, WellFormed}
+use Rattle.store.specs.Store.{kindAt, isHeader, noHeader, termAt, keeps, step, stepKind, WellFormed}
 use Rattle.store.specs.Steps.{steps-fixed}
-use Rattle.store.specs.Ends.{steps-add}
+use Rattle.store.specs.Ends.{end-next}
 use Rattle.store.specs.WellFormed.{end-stays}
 use Rattle.cycle.specs.Kids.{arityAt, degKind, deg, kidKind, kid, str-atom, lis-terms}
 use Rattle.terms.specs.View.{Constant, atom, number, free, con, nod, arityOf, strView, viewKind, lookAt, dot, funKind, behind, shapeOf}
@@ -57,11 +57,8 @@ module _ (s : List ℕ) (top : ℕ) (wf : WellFormed s top) (i : ℕ) (l : 1 ≤
 
   -- following from the next cell along a Var ends where following ends
   pub look-over : lookAt s top i ≡ lookAt s top (step s i)
-  unfolding lookAt steps
-  look-over =
-      let z : 1 + top ≡ top + 1 = omega arith in
-      let e : endOf s top (step s i) ≡ endOf s top i = sym (steps-add s 1 top i) ∙ ap (λ (n : ℕ). steps s n i) z ∙ steps-add s top 1 i ∙ end-stays s top wf i l h in
-      sym (ap (λ (x : ℕ). viewKind s (kindAt s x)) e)
+  unfolding lookAt
+  look-over = sym (ap (λ (x : ℕ). viewKind s (kindAt s x)) (end-next s top i (end-stays s top wf i l h)))
 
   -- the cases by kind
   of-var : (v : ℕ) → kindAt s i ≡ Var v → Shows s top i

@@ -6,12 +6,12 @@ use Prim.Native.Nat.{ℕ, zero, suc, _+_, _*_, _<_, _≤_}
 use native.Mathlib.Omega.{arith}
 use lib.ListN.{length, getD}
 use lib.Dec.{leb, ltb, eqb}
-use borrow.Author.Tests.{leb-true, le-leb, ltb-true, eqb-false, ne-eqb, not-true}
+use borrow.Author.Tests.{leb-true, le-leb, ltb-true, lt-ltb, eqb-false, ne-eqb, not-true}
 use Rattle.store.specs.All.{all-holds, all-true}
 use Rattle.store.specs.Store.{zeroFrom, wellFormed}
 use Rattle.store.specs.Zeros.{zeros, zeros-back}
 use Rattle.trail.specs.declared.Answer.the-variants.{Done}
-use Rattle.trail.specs.Rules.{namesBound, entryNew, entryKeeps, trailUsed, trailGood, markWidth, markTop, markTrail, topBefore, trailBefore, rises, markGood, marksGood}
+use Rattle.trail.specs.Rules.{unboundAt, namesBound, entryNew, entryKeeps, trailUsed, trailGood, markWidth, markTop, markTrail, topBefore, trailBefore, rises, markGood, marksGood}
 use Rattle.cell.specs.declared.Refusal.{Refusal}
 use Rattle.trail.specs.State.{State, Outcome, refused, cellsHold, trailHolds, holds, checkOf, need, _then_, unless, check-done}
 
@@ -32,6 +32,21 @@ bound-used cells top e h =
     let a = and-eq-true-iff (leb 1 e && ltb e top) _ .0 h .0 in
     let b = and-eq-true-iff (leb 1 e) (ltb e top) .0 a in
     (leb-true 1 e (b .0), ltb-true e top (b .1))
+
+pub bound-free : (cells : List ℕ) (top e : ℕ) → namesBound cells top e ≡ true → not (unboundAt cells e) ≡ true
+unfolding namesBound
+bound-free cells top e h = and-eq-true-iff (leb 1 e && ltb e top) (not (unboundAt cells e)) .0 h .1
+
+-- where the old cells are the same and there are more, an entry keeps its rule
+pub names-over : (cells cs : List ℕ) (top n e : ℕ) → top ≤ n → (e < top → getD cs e 0 ≡ getD cells e 0) → namesBound cells top e ≡ true → namesBound cs n e ≡ true
+unfolding namesBound
+names-over cells cs top n e up same h =
+    let u = bound-used cells top e h in
+    let hi = u .1 in
+    rw (le-leb 1 e (u .0), lt-ltb e n (omega arith), same hi) (bound-free cells top e h)
+
+pub trail-over : (cells cs : List ℕ) (top n : ℕ) (trail : List ℕ) (trailed : ℕ) → top ≤ n → ((j : ℕ) → j < top → getD cs j 0 ≡ getD cells j 0) → TrailGood cells top trail trailed → TrailGood cs n trail trailed
+trail-over cells cs top n trail trailed up same t = record { fits = t .fits; bound = λ i h. names-over cells cs top n (getD trail i 0) up (same (getD trail i 0)) (t .bound i h); apart = t .apart; rest = t .rest }
 
 module _ (cells : List ℕ) (top : ℕ) (trail : List ℕ) where
   new-apart : (i : ℕ) → entryNew trail i ≡ true → (j : ℕ) → j < i → getD trail j 0 ≡ getD trail i 0 → ⊥
@@ -84,6 +99,15 @@ pub record MarksGood (top trailed : ℕ) (marks : List ℕ) (marked : ℕ) : Typ
   pub each : (m : ℕ) → m < marked → MarkGood top trailed marks m
   -- the rest is 0
   pub rest : (i : ℕ) → markWidth * marked ≤ i → getD marks i 0 ≡ 0
+
+-- where there are more cells, marks keep their rules
+pub marks-over : (top n trailed : ℕ) (marks : List ℕ) (marked : ℕ) → top ≤ n → MarksGood top trailed marks marked → MarksGood n trailed marks marked
+marks-over top n trailed marks marked up g =
+    record {
+      fits = g .fits;
+      each = λ i h. let m = g .each i h in let w = m .top-within in record { top-rises = m .top-rises; trail-rises = m .trail-rises; top-within = omega arith; trail-within = m .trail-within };
+      rest = g .rest;
+    }
 
 module _ (top trailed : ℕ) (marks : List ℕ) where
   mark-parts : (m : ℕ) → markGood top trailed marks m ≡ true → MarkGood top trailed marks m

@@ -1,5 +1,5 @@
 // Replays a list of cases from standard input and prints how many differ. A row is a call on a store,
-// what it answers, and every word after it, as hexadecimal numbers:
+// what it answers, and the cells and the trail after it, as hexadecimal numbers:
 //   CALL A B ANSWER TOP cells.. NEW-TOP cells.. ENTRIES trail..
 // CALL is 1 plain, 2 checked, 3 copy, 4 cyclic; cell 0 is left out of the cells; 0 ends the list.
 ghost use Prim.Native.Nat.{_≤_};

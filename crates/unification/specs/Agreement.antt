@@ -7,7 +7,7 @@ use native.Mathlib.Omega.{arith}
 use lib.Dec.{eqb}
 use borrow.Author.Tests.{eqb-true, eqb-false, ne-eqb}
 use Rattle.terms.specs.View.{View, free, con, nod, Shape, arityOf}
-use Rattle.unification.specs.Machine.{Act, join, clash, merge, args}
+use Rattle.unification.specs.Machine.{Act, clash, merge, args}
 use Rattle.unification.specs.Trees.{Same, Agree}
 use Rattle.unification.specs.Seen.{Seen, put, put-here, apply, All, all-map}
 use Rattle.unification.specs.Weight.{Merged, same, left, right, merged, merge-ends}

@@ -1,9 +1,9 @@
 -- What plain and checked unification answer and leave, of any state, any work buffer and any roots.
 use mathlib.Core.Bool.{true, false, not, cond}
-use mathlib.Core.List.{List, _++_}
-use Prim.Native.Nat.{ℕ, _-_, _*_}
+use mathlib.Core.List.{List}
+use Prim.Native.Nat.{ℕ, _-_}
 use lib.Dec.{leb}
-use lib.ListN.{length, drop, replicate}
+use lib.ListN.{length}
 use Rattle.cell.specs.declared.Refusal.the-variants.{Root, Work, TrailRoom, Cycle}
 use Rattle.store.specs.Store.{termAt}
 use Rattle.trail.specs.Rules.{unboundAt}

@@ -65,7 +65,7 @@ module _ (sh : Shape) (look : ℕ → View) where
               (λ j l. rw (nth-insts (only v s) ts j) (let l′ : j < many ts = rw (many-insts (only v s) ts) at l in q j l′ (sh .arg (h .0) j) (stands-arg sh look ts (h .0) (h .3) j l′))),
         ))
 
--- cells that agree to every depth stand for only term
+-- cells that agree to every depth stand for one term
 module _ (sh : Shape) (look : ℕ → View) where
   pub agree-eq : (t u : Term) (i j : ℕ) → ((d : ℕ) → Agree sh look d i j) → Stands sh look t i → Stands sh look u j → t ≡ u
   agree-eq = term-ind (λ t. (u : Term) (i j : ℕ) → ((d : ℕ) → Agree sh look d i j) → Stands sh look t i → Stands sh look u j → t ≡ u)

@@ -8,16 +8,15 @@ use native.Mathlib.Omega.{arith}
 use lib.Dec.{leb, ltb}
 use lib.ListN.{length, getD}
 use borrow.Author.Tests.{eq-eqb, ne-eqb}
-use Rattle.cell.specs.declared.Kind.the-variants.{Var}
 use Rattle.store.specs.Store.{noHeader, termAt, step, endOf, WellFormed}
 use Rattle.store.specs.Steps.{term-used}
-use Rattle.store.specs.WellFormed.{end-stays}
+use Rattle.store.specs.WellFormed.{end-stays, steps-in}
 use Rattle.trail.specs.State.{State}
 use Rattle.terms.specs.View.{View, free, con, nod, Shape, arityOf, lookAt, shapeOf}
 use Rattle.unification.specs.Machine.{Act, skip, bind, join, clash, rule, Machine, Ending, yes, clashes, occurs, late, popped, written, joined, other, actOf, isCompound, stopped, after, turn, run, start, fuel}
 use Rattle.unification.specs.Calls.{unbound}
 use Rattle.unification.specs.Cases.{Apart, Case, binds, binds′, joins, parts, case, act-is}
-use Rattle.unification.specs.Nodes.{steps-in, end-term, look-end, free-end, var-look, node-args}
+use Rattle.unification.specs.Nodes.{end-term, look-end, free-end, var-look, node-args}
 use Rattle.unification.specs.Seen.{Seen, seenOf, pushed, apply, All, all-map, all-args}
 use Rattle.unification.specs.Write.{Bindable, write-store, write-term, write-shape, write-look, word-v, write-bound, write-count}
 use Rattle.unification.specs.Weight.{Classed, weight, level, classed-step, classed-start, weight-start}

@@ -13,8 +13,8 @@ use Rattle.cell.specs.declared.Kind.{Kind}
 use Rattle.cell.specs.declared.Kind.the-variants.{Var, Str, Lis, Atom, Fixnum, Bad}
 use Rattle.cell.specs.Kinds.{kindOf, byTag}
 use Rattle.store.specs.Store.{kindAt, isHeader, noHeader, termAt, keeps, step, stepKind, steps, endOf, WellFormed}
-use Rattle.store.specs.Steps.{steps-fixed, step-used, term-used}
-use Rattle.store.specs.WellFormed.{keeps-cells, end-stays}
+use Rattle.store.specs.Steps.{steps-fixed, term-used}
+use Rattle.store.specs.WellFormed.{end-stays, steps-in}
 use Rattle.cycle.specs.Kids.{deg, kid, kid-term}
 use Rattle.terms.specs.View.{atom, free, con, nod, arityOf, strView, viewKind, lookAt, behind, shapeOf}
 use Rattle.terms.specs.Shows.{Shows, unbound, plain, node, bound, arity-some, flat, shows}
@@ -36,11 +36,6 @@ module _ (s : List ℕ) (top : ℕ) (wf : WellFormed s top) where
   used-or (suc i) = elim (decLt (suc i) top) [ yes h ↦ inl (omega arith, h) | no h ↦ inr (unused (suc i) (wf .rest (suc i) (omega arith))) ]
 
   -- ---- where following ends
-  pub steps-in : (n i : ℕ) → 1 ≤ i → i < top → (1 ≤ steps s n i) × (steps s n i < top)
-  unfolding steps
-  steps-in zero i l h = (l, h)
-  steps-in (suc n) i l h = let u = step-used s top (keeps-cells s top wf) i l h in steps-in n (step s i) (u .0) (u .1)
-
   -- a Var names no header
   step-term : (i : ℕ) → termAt s top i ≡ true → termAt s top (step s i) ≡ true
   unfolding step stepKind keeps
@@ -111,7 +106,7 @@ module _ (s : List ℕ) (top : ℕ) (wf : WellFormed s top) where
   free-term i v e =
       let u = free-used i v e in
       let f = free-end i v (u .0) (u .1) e in
-      let w = steps-in top i (u .0) (u .1) in
+      let w = steps-in s top wf top i (u .0) (u .1) in
       let q = f .0 in
       rw (le-leb 1 v (omega arith), lt-ltb v top (omega arith)) (ap (λ (k : Kind). not (isHeader k)) (f .1))
 
@@ -132,7 +127,7 @@ module _ (s : List ℕ) (top : ℕ) (wf : WellFormed s top) where
   pub node-args : (i n k : ℕ) → lookAt s top i ≡ nod n → k < arityOf (shapeOf s) n → termAt s top (shapeOf s .arg n k) ≡ true
   node-args i n k e b =
       let u = node-used i n e in
-      let w = steps-in top i (u .0) (u .1) in
+      let w = steps-in s top wf top i (u .0) (u .1) in
       let x = endOf s top i in
       let d = node-kids x n (w .0) (w .1) (end-stays s top wf i (u .0) (u .1)) (look-end i (u .0) (u .1) ∙ e) in
       let y = d .0 in

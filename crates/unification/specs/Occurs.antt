@@ -2,14 +2,14 @@
 use mathlib.Core.Path.{_≡_, refl, sym, ap, subst, _∙_}
 use mathlib.Core.Bool.{true, false, false≢true}
 use mathlib.Core.List.{List}
-use Prim.Native.Nat.{ℕ, _+_, _<_, _≤_}
+use Prim.Native.Nat.{ℕ, _<_, _≤_}
 use native.Mathlib.Omega.{arith}
 use Rattle.cell.specs.declared.Kind.{Kind}
 use Rattle.cell.specs.declared.Kind.the-variants.{Var, Str, Lis, Atom, Fixnum, Bad}
-use Rattle.store.specs.Store.{kindAt, step, stepKind, steps, endOf, WellFormed}
+use Rattle.store.specs.Store.{kindAt, step, stepKind, endOf, WellFormed}
 use Rattle.store.specs.Steps.{steps-fixed}
-use Rattle.store.specs.WellFormed.{along, end-stays}
-use Rattle.store.specs.Ends.{steps-add}
+use Rattle.store.specs.WellFormed.{along, end-stays, steps-in}
+use Rattle.store.specs.Ends.{end-next}
 use Rattle.cycle.specs.Graph as Graph
 use Rattle.cycle.specs.Graph.{Edge, Reach, here, over, join}
 use Rattle.cycle.specs.Kids.{deg, kid, kid-edge, edge-kid, kid-used}
@@ -17,7 +17,7 @@ use Rattle.cycle.specs.Reached.{true-reach, reach-true}
 use Rattle.terms.specs.View.{View, free, nod, Shape, arityOf, lookAt, shapeOf}
 use Rattle.terms.specs.Shows.{Shows, unbound, plain, node, bound, shows}
 use Rattle.unification.specs.Machine.{isCompound, stopped}
-use Rattle.unification.specs.Nodes.{steps-in, look-end, free-end, free-used, var-look, node-kids, node-used}
+use Rattle.unification.specs.Nodes.{look-end, free-end, free-used, var-look, node-kids, node-used}
 
 -- the variable v lies within cell i
 pub data Within (sh : Shape) (look : ℕ → View) (v : ℕ) : ℕ → Type 0 where
@@ -64,17 +64,11 @@ module _ (s : List ℕ) (top : ℕ) (wf : WellFormed s top) where
       go (Fixnum z) e n = absurd (n refl)
       go Bad e n = absurd (n refl)
 
-  end-step : (i : ℕ) → 1 ≤ i → i < top → endOf s top (step s i) ≡ endOf s top i
-  unfolding steps
-  end-step i l h =
-      let z : 1 + top ≡ top + 1 = omega arith in
-      sym (steps-add s 1 top i) ∙ ap (λ (n : ℕ). steps s n i) z ∙ steps-add s top 1 i ∙ end-stays s top wf i l h
-
   reach-end : (i : ℕ) → 1 ≤ i → i < top → Reach s i (endOf s top i)
   reach-end =
       along s top wf (λ (i : ℕ). Reach s i (endOf s top i))
       (λ i l h q. subst (Reach s i) (sym (steps-fixed s top i q)) here)
-      (λ i l h n r. subst (Reach s i) (end-step i l h) (over (step-edge i n) r))
+      (λ i l h n r. subst (Reach s i) (end-next s top i (end-stays s top wf i l h)) (over (step-edge i n) r))
 
   arg-edge : (i n k : ℕ) → lookAt s top i ≡ nod n → k < arityOf (shapeOf s) n → Edge s (endOf s top i) (shapeOf s .arg n k)
   arg-edge i n k e b =

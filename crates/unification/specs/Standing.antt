@@ -8,7 +8,7 @@ use lib.ListN.{length}
 use Rattle.trail.specs.State.{State}
 use Rattle.terms.specs.View.{View, Shape}
 use Rattle.unification.specs.Machine.{Act, skip, bind, join, clash, Machine, yes, occurs, popped, written, joined, other, actOf, stopped, after, turn, start, fuel}
-use Rattle.unification.specs.Live.{Live, to, endA, endB, CaseHere, case-here, live-step}
+use Rattle.unification.specs.Live.{Live, endA, endB, CaseHere, case-here, live-step}
 
 -- the machines that a run comes to: the start, and what one turn makes of another
 pub data Comes (check : Bool) (s : State) (a b : ℕ) : Machine → Type 0 where

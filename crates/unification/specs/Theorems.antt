@@ -61,7 +61,7 @@ pub record Solved (s t : State) (a b : ℕ) : Type 0 where
   pub left-now : StandsAt (t .cells) (t .top) both a
   pub right-now : StandsAt (t .cells) (t .top) both b
 
--- what a yes leaves: only cells that were unbound Vars are written, each is trailed, in order, nothing else has changed, and every rule of the cells, the trail and the marks holds
+-- what a yes leaves: only cells that were unbound Vars are written, each is trailed, nothing else has changed, and every rule of the cells, the trail and the marks holds
 pub record Leaves (s t : State) : Type 0 where
   pub wrote : Wrote s (t .cells) (t .trail) (t .trailed)
   pub top-same : t .top ≡ s .top

@@ -1,20 +1,20 @@
 -- How many pairs can ever stand: the pairs, and the arities of the nodes that name a class, keep one sum, which falls by one with each pair taken and starts at 3 x `top` + 1 at most.
 use mathlib.Core.Path.{_≡_, refl, sym, ap, _∙_}
-use mathlib.Core.Bool.{Bool, true, false, not, cond, _&&_, and-eq-true-iff, false≢true}
+use mathlib.Core.Bool.{Bool, true, false, cond, _&&_, and-eq-true-iff}
 use mathlib.Core.List.{List, [], _∷_}
 use Prim.Native.Nat.{ℕ, zero, suc, _+_, _*_, _<_, _≤_}
 use native.Mathlib.Omega.{arith}
 use lib.Dec.{eqb, leb, ltb}
 use lib.ListN.{length, length-append}
-use borrow.Author.Tests.{eqb-true, eq-eqb, ne-eqb, lt-ltb}
+use borrow.Author.Tests.{eqb-true, eq-eqb, ne-eqb}
 use Rattle.cell.specs.declared.Kind.{Kind}
 use Rattle.cell.specs.declared.Kind.the-variants.{Var, Str, Lis, Atom, Fixnum, Bad}
 use Rattle.cell.specs.Kinds.{kindOf, byTag}
-use Rattle.store.specs.Store.{kindAt, isHeader, noHeader, termAt, WellFormed}
+use Rattle.store.specs.Store.{kindAt, noHeader, termAt, WellFormed}
 use Rattle.cycle.specs.Sum.{sumFrom, sum-same}
-use Rattle.cycle.specs.Kids.{arityKind, arityAt, run-used, run-term}
+use Rattle.cycle.specs.Kids.{arityKind, arityAt, no-arguments, run-used, run-term}
 use Rattle.terms.specs.View.{nod, Shape, arityOf, funKind, lookAt, shapeOf}
-use Rattle.unification.specs.Machine.{Act, join, merge, args}
+use Rattle.unification.specs.Machine.{Act, merge, args}
 use Rattle.unification.specs.Seen.{Seen, put-is, apply}
 use Rattle.unification.specs.Cases.{Case, skips, binds, binds′, joins, parts}
 use Rattle.unification.specs.Nodes.{node-lt}
@@ -139,17 +139,6 @@ weight-le (Atom n (suc a)) = omega arith
 weight-le (Fixnum z) = omega arith
 weight-le Bad = omega arith
 
--- what is no header has nothing behind it
-bare : (k : Kind) → not (isHeader k) ≡ true → arityKind k ≡ 0
-unfolding isHeader arityKind
-bare (Var v) h = refl
-bare (Str v) h = refl
-bare (Lis v) h = refl
-bare (Atom n zero) h = refl
-bare (Atom n (suc a)) h = absurd (false≢true (sym (ap not (lt-ltb 0 (suc a) (omega arith))) ∙ h))
-bare (Fixnum z) h = refl
-bare Bad h = refl
-
 module _ (s : List ℕ) (top : ℕ) (wf : WellFormed s top) where
   none-zero : arityAt s 0 ≡ 0
   unfolding arityAt arityKind kindOf byTag
@@ -157,7 +146,7 @@ module _ (s : List ℕ) (top : ℕ) (wf : WellFormed s top) where
 
   bare-term : (i : ℕ) → termAt s top i ≡ true → arityAt s i ≡ 0
   unfolding arityAt termAt
-  bare-term i t = bare (kindAt s i) (and-eq-true-iff (leb 1 i && ltb i top) (noHeader s i) .0 t .1)
+  bare-term i t = no-arguments (kindAt s i) (and-eq-true-iff (leb 1 i && ltb i top) (noHeader s i) .0 t .1)
 
   -- the cells behind a used cell are used, and are no headers
   behind-used : (f : ℕ) → f < top → f + arityAt s f < top

@@ -1,6 +1,6 @@
 -- An unbound Var gets the word of another followed cell: the store stays well formed, no header comes or goes, each cell shows what it showed with the variable put aside, and one unbound Var is less.
 use mathlib.Core.Path.{_≡_, refl, sym, ap, subst, _∙_, fun-ext}
-use mathlib.Core.Bool.{Bool, true, false, not, cond, false≢true}
+use mathlib.Core.Bool.{true, false, not, cond, false≢true}
 use mathlib.Core.List.{List}
 use mathlib.Core.Logic.{_⊎_, inl, inr, ⊎-elim}
 use Prim.Native.Nat.{ℕ, zero, suc, _+_, _<_, _≤_}
@@ -9,7 +9,7 @@ use native.Mathlib.Decide.{ℕ-discrete}
 use lib.Dec.{eqb}
 use lib.ListN.{getD, set, length-set}
 use lib.Seq.{getD-set-same, getD-set-other}
-use borrow.Author.Tests.{lt-ltb, eq-eqb, ne-eqb}
+use borrow.Author.Tests.{lt-ltb, eq-eqb, ne-eqb, not-true}
 use Rattle.cell.specs.declared.Kind.{Kind}
 use Rattle.cell.specs.declared.Kind.the-variants.{Var, Str, Lis, Atom, Fixnum, Bad}
 use Rattle.cell.specs.Word.{varWord}
@@ -17,6 +17,7 @@ use Rattle.cell.specs.Kinds.{kindOf, wordOfKind, Proper}
 use Rattle.cell.specs.RoundTrips.{word-back, kind-back}
 use Rattle.store.specs.All.{allFrom}
 use Rattle.store.specs.Store.{limit, kindAt, isHeader, isAtom, noHeader, termAt, runAt, keeps, keepsAt, step, stepKind, steps, Ends, WellFormed}
+use Rattle.store.specs.Steps.{same-step}
 use Rattle.store.specs.Over.{keeps-over, term-over}
 use Rattle.store.specs.WellFormed.{along}
 use Rattle.cycle.specs.Sum.{sumFrom}
@@ -75,7 +76,7 @@ module _ (s : List ℕ) (top : ℕ) (wf : WellFormed s top) (v e : ℕ) (x : Vie
   by-cell : (P : ℕ → Kind → Type 0) → P v (kindAt s e) → ((j : ℕ) → (j ≡ v → ⊥) → P j (kindAt s j)) → (j : ℕ) → P j (kindAt new j)
   by-cell P a b j = elim (ℕ-discrete j v) [ yes q ↦ subst (λ (m : ℕ). P m (kindAt new m)) (sym q) (subst (λ (w : ℕ). P v (kindOf w)) (sym at-v) a) | no n ↦ subst (λ (w : ℕ). P j (kindOf w)) (sym (at-other j n)) (b j n) ]
 
-  -- ---- the store (k .stays) well formed
+  -- ---- the store stays well formed
   heads : (j : ℕ) → noHeader s j ≡ true → noHeader new j ≡ true
   heads = by-cell (λ (j : ℕ) (k : Kind). noHeader s j ≡ true → not (isHeader k) ≡ true) (λ _. (k .plain)) (λ j _ h. h)
 
@@ -84,11 +85,7 @@ module _ (s : List ℕ) (top : ℕ) (wf : WellFormed s top) (v e : ℕ) (x : Vie
   atoms = by-cell (λ (j : ℕ) (k : Kind). isAtom (kindAt s j) ≡ true → isAtom k ≡ true) (λ h. absurd (false≢true (ap isAtom (sym (k .free-v)) ∙ h))) (λ j _ h. h)
 
   no-header : isHeader (kindAt s e) ≡ false
-  no-header = flip (isHeader (kindAt s e)) (k .plain)
-    where
-      flip : (b : Bool) → not b ≡ true → b ≡ false
-      flip true h = sym h
-      flip false h = refl
+  no-header = not-true (isHeader (kindAt s e)) (k .plain)
 
   keep : (j : ℕ) → 1 ≤ j → j < top → keepsAt new top j ≡ true
   keep = by-cell (λ (j : ℕ) (k : Kind). 1 ≤ j → j < top → keeps new top j k ≡ true)
@@ -96,8 +93,7 @@ module _ (s : List ℕ) (top : ℕ) (wf : WellFormed s top) (v e : ℕ) (x : Vie
       (λ j _ l h. keeps-over s new top top (omega arith) (λ j _. heads j) (λ j _. atoms j) j (kindAt s j) (wf .keep j l h))
 
   step-other : (j : ℕ) → (j ≡ v → ⊥) → step new j ≡ step s j
-  unfolding step
-  step-other j n = ap (λ (w : ℕ). stepKind j (kindOf w)) (at-other j n)
+  step-other j n = same-step s new j (at-other j n)
 
   step-v : step s v ≡ v
   unfolding step stepKind
@@ -107,7 +103,7 @@ module _ (s : List ℕ) (top : ℕ) (wf : WellFormed s top) (v e : ℕ) (x : Vie
   unfolding step
   step-new = ap (λ (w : ℕ). stepKind v (kindOf w)) at-v
 
-  -- v now goes to e, or (k .stays)
+  -- v now goes to e, or stays
   next : (k : Kind) → stepKind e k ≡ e → (stepKind v k ≡ e) ⊎ (stepKind v k ≡ v)
   unfolding stepKind
   next (Var w) h = inl h

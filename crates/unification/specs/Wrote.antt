@@ -1,4 +1,4 @@
--- What a run has written so far: only cells that were unbound Vars, each trailed once, in order; so the trail's room is enough, the trail keeps its rules, and unbinding the new entries, in any order, gives the cells at entry back.
+-- What a run has written so far: only cells that were unbound Vars, each trailed once; so the trail's room is enough, the trail keeps its rules, and unbinding the new entries, in any order, gives the cells at entry back.
 use mathlib.Core.Path.{_≡_, refl, sym, ap, subst, _∙_}
 use mathlib.Core.Bool.{true, not, _&&_, and-eq-true-iff}
 use mathlib.Core.List.{List, [], _∷_}

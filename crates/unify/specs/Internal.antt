@@ -7,7 +7,7 @@ use lib.ListN.{length, drop}
 use Rattle.store.specs.Store.{termAt, WellFormed}
 use Rattle.trail.specs.State.{State, stateOf}
 use Rattle.chains.specs.Work.{workNeed}
-use Rattle.unification.specs.Machine.{Machine, Ending, yes, clashes, unified}
+use Rattle.unification.specs.Machine.{Machine, yes, clashes, unified}
 use Rattle.unification.specs.Calls.{unbound}
 use Rattle.unification.specs.Wrote.{Wrote}
 

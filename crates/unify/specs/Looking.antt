@@ -6,9 +6,8 @@ use native.Mathlib.Omega.{arith}
 use lib.ListN.{length, getD}
 use Rattle.cell.specs.declared.Kind.{Kind}
 use Rattle.store.specs.Store.{kindAt, endOf, WellFormed}
-use Rattle.store.specs.WellFormed.{end-stays}
+use Rattle.store.specs.WellFormed.{end-stays, steps-in}
 use Rattle.chains.specs.Chains.{Hops}
-use Rattle.unification.specs.Nodes.{steps-in}
 use Rattle.unify.specs.declared.Act.{Act}
 use Rattle.unify.specs.declared.Act.the-variants.{Skip}
 use Rattle.unify.specs.Layout.{hopsOf, pairPlace, pairAt}

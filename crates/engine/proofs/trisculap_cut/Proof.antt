@@ -1,6 +1,5 @@
 -- `engine::trisculap_cut` meets its contract: it returns and tells what `marks::cut` answers.
 use Rattle.engine.specs.Coded.{coded-by}
-use mathlib.Core.Path.{ap}
 use borrow.Author.Needs.{needs}
 use Rattle.engine.proofs.trisculap_cut.Statement.{statement}
 use Rattle.engine.proofs.trisculap_cut.Tie as tie

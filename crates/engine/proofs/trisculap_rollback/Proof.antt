@@ -1,6 +1,5 @@
 -- `engine::trisculap_rollback` meets its contract: it returns and tells what `marks::rollback` answers.
 use Rattle.engine.specs.Coded.{coded-by}
-use mathlib.Core.Path.{ap}
 use borrow.Author.Needs.{needs}
 use Rattle.engine.proofs.trisculap_rollback.Statement.{statement}
 use Rattle.engine.proofs.trisculap_rollback.Tie as tie
