@@ -12,6 +12,13 @@
 #define TRISCULAP_H
 #include <stddef.h>
 #include <stdint.h>
+
+/* The most cells that a store may use, the work words that a call wants for each used cell, and the
+ * words of a mark. */
+#define TRISCULAP_LIMIT 4096
+#define TRISCULAP_WORK_PER_CELL 12
+#define TRISCULAP_MARK_WORDS 2
+
 #ifdef __cplusplus
 extern "C" {
 #endif

@@ -27,7 +27,7 @@ static void expect(const char *what, uint64_t got, uint64_t wanted)
 
 /* Heap B holds one term, g(X), at cell 1; its variable X is cell 3. */
 static uint64_t cells[16] = {0, STR(2), ATOM('g', 1), VAR(3)};
-static uint64_t trail[16], marks[2], work[12 * 16];
+static uint64_t trail[16], marks[TRISCULAP_MARK_WORDS], work[TRISCULAP_WORK_PER_CELL * 16];
 static size_t top = 4, trailed, marked;
 
 static uint64_t unify(size_t a, size_t b, uint64_t *yes)
@@ -131,6 +131,8 @@ static void refusals(void)
 
     int kept = yes == 99 && word == 99 && number == 99 && at == 99;
     kept = kept && one == 1 && no == 0 && set == 1 && fresh[0] == 0 && room[1] == 0;
+    kept = kept && var[0] == 0 && var[1] == VAR(1) && none[0] == 0 && mark[0] == 0 && mark[1] == 0;
+    kept = kept && ring[0] == 0 && ring[1] == LIS(1) && ring[2] == ATOM('a', 0);
     for (size_t i = 0; i < WORDS(buffer); i++)
         kept = kept && buffer[i] == UINT64_C(0x5A5A5A5A5A5A5A5A);
     expect("words, counts and answers are as they were", kept, 1);

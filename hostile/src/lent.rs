@@ -1,7 +1,7 @@
 //! One call on words between guard pages, and what must be so after it.
 
 use trisculap::c;
-use trisculap_reference::calls::{Call, Store};
+use trisculap_reference::calls::{perform, Call, Store};
 use trisculap_reference::{LIMIT, WORK_PER_CELL};
 
 use crate::guard::{Guarded, Side};
@@ -122,6 +122,7 @@ impl Lender {
         side: Side,
     ) -> Result<After, &'static str> {
         let after = self.make(store, call, side)?;
+        as_ordinary(store, call, &after)?;
         if after.returned != 0 {
             refused(store, &after)?;
         } else {
@@ -174,6 +175,19 @@ impl Lender {
 
 fn require(holds: bool, what: &'static str) -> Result<(), &'static str> {
     holds.then_some(()).ok_or(what)
+}
+
+/// The engine in ordinary Rust gives the same number, answer and words.
+fn as_ordinary(before: &Store, call: &Call, after: &After) -> Result<(), &'static str> {
+    let mut store = before.clone();
+    let (returned, answer) = match (perform(&mut store, call), call) {
+        (Err(number), _) => (number, UNTOUCHED),
+        (Ok(_), Call::Check | Call::Rollback(_) | Call::Cut(_)) => (0, UNTOUCHED),
+        (Ok(answer), _) => (0, answer),
+    };
+    require(after.returned == returned, "another number")?;
+    require(after.answer == answer, "another answer")?;
+    require(after.store == store, "other words")
 }
 
 fn refused(before: &Store, after: &After) -> Result<(), &'static str> {

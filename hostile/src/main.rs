@@ -1,6 +1,7 @@
 //! Calls the proved engine with hostile input: random words, flipped bits, wrong counts, lengths
 //! and roots, in buffers between guard pages. A refusal must change nothing, an answer must leave
-//! a store that the check accepts, and histories must replay.
+//! a store that the check accepts, both must be what the engine in ordinary Rust gives, and
+//! histories must replay.
 //!
 //!   trisculap-hostile [ROUNDS [SEED]]
 
@@ -17,15 +18,19 @@ use lent::Lender;
 use random::Random;
 use trisculap_reference::calls::Store;
 
+/// So many stores meet an answer and each refusal.
+const ENOUGH: u64 = 10_000;
+
 extern "C" {
     fn alarm(seconds: c_uint) -> c_uint;
 }
 
 fn main() {
     let mut arguments = std::env::args().skip(1).map(|word| word.parse().expect("a number"));
-    let rounds = arguments.next().unwrap_or(20_000);
+    let rounds = arguments.next().unwrap_or(2 * ENOUGH);
     let seed = arguments.next().unwrap_or(1);
     // Every call ends. Should one not, a signal ends the program, and that is a failure too.
+    // Safety: it takes a number and touches no memory.
     unsafe { alarm(60 + (rounds / 100) as c_uint) };
     let mut r = Random::seeded(seed);
     let mut lender = Lender::new();
@@ -37,6 +42,10 @@ fn main() {
             println!("round {round} of seed {seed}: {what}");
             std::process::exit(1);
         }
+    }
+    if let Some(number) = tally.iter().position(|times| *times == 0).filter(|_| rounds >= ENOUGH) {
+        println!("seed {seed}: {rounds} stores, and never {number}");
+        std::process::exit(1);
     }
     println!("seed {seed}: {rounds} stores and {rounds} histories");
     println!("answers {}, refusals 1 to 11: {:?}", tally[0], &tally[1..]);

@@ -13,7 +13,7 @@ use crate::archive;
 fn the_archive_and_the_reference_agree() {
     let mut r = Random::seeded(3);
     for round in 0..200_000 {
-        let most = if round % 10 == 0 { 200 } else { 14 };
+        let most = if round % 20 == 0 { 400 } else { 14 };
         let whole = random::store(&mut r, most);
         let store = random::perhaps_damaged(&mut r, whole);
         for call in random::calls(&mut r, &store) {

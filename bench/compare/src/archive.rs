@@ -5,9 +5,6 @@ use trisculap_reference::calls::{Call, Store};
 
 /// Makes a call, answering as the reference's `perform` does.
 pub fn perform(store: &mut Store, call: &Call) -> Result<u64, u64> {
-    if let Call::Number(n) = *call {
-        return trisculap::number(n).map_err(|refusal| refusal as u64);
-    }
     on_lent_words(store, call).map_err(|refusal| refusal as u64)
 }
 

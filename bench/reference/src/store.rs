@@ -8,6 +8,9 @@ use crate::{refusal, require, trail};
 /// The most cells that a store may use.
 pub const LIMIT: usize = 4096;
 
+/// Local tables hold cell numbers as `u16`.
+const _: () = assert!(LIMIT < 1 << 16);
+
 /// How many of the lent cells may be used.
 pub(crate) fn capacity(cells: &[u64]) -> usize {
     cells.len().min(LIMIT)

@@ -84,8 +84,9 @@ pub fn number(n: i64) -> Result<u64, Refusal> {
     answered(returned, word)
 }
 
-// Safety of every call below: a pointer and its length come from one slice, the slices are
-// borrowed for writing and so do not overlap, and each single word is a field or a local variable.
+// Safety of every call below: a pointer and its length come from one slice, each slice that a call
+// may write is borrowed mutably and so overlaps nothing, and each single word is a field or a local
+// variable.
 impl Store<'_> {
     /// Whether cells, trail and marks keep every rule.
     #[inline]

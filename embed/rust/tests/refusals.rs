@@ -1,6 +1,6 @@
 //! A refusal of each number, on a store as small as can be; the words stay as they were.
 
-use trisculap::{number, Refusal, Store};
+use trisculap::{number, Refusal, Store, LIMIT, WORK_PER_CELL};
 
 const VAR_1: u64 = 1 << 58 | 1;
 const LIS_1: u64 = 3 << 58 | 1;
@@ -33,6 +33,27 @@ fn refused<T>(
     assert!(trail.iter().chain(&marks).all(|word| *word == 0));
     assert!(work.iter().all(|word| *word == 7));
     answer.err()
+}
+
+/// As many cells as a store may use are appended, and not one more, though more are lent.
+#[test]
+fn the_limit() {
+    let mut cells = vec![0; LIMIT + 1];
+    let mut work = vec![7; WORK_PER_CELL * LIMIT];
+    let mut store = Store {
+        cells: &mut cells,
+        top: 1,
+        trail: &mut [],
+        trailed: 0,
+        marks: &mut [],
+        marked: 0,
+        work: &mut work,
+    };
+    assert_eq!(store.append(&vec![ATOM_A; LIMIT - 1]), Ok(1));
+    assert_eq!(store.append(&[ATOM_A]), Err(Refusal::Room));
+    assert_eq!(store.unify(1, 2), Ok(true));
+    store.work = &mut store.work[1..];
+    assert_eq!(store.unify(1, 2), Err(Refusal::Work));
 }
 
 #[test]
