@@ -1,4 +1,4 @@
-//! One text for what cells mean, whatever words carry it. Works on any words in document 01's
+//! One text for what cells mean, whatever words carry it. Works on any words in this engine's
 //! layout, also on cells that are not well formed.
 //!
 //! The cells reached from the roots are a graph of terms. Cells that mean the same rational tree

@@ -35,7 +35,7 @@ pub enum Outcome {
     Refused(u64),
     /// Only the originals stop without an answer.
     Stopped(Stop),
-    /// Lent words beside the answer are not as document 01 says: which.
+    /// Lent words beside the answer are not as the rules say: which.
     Broken(&'static str),
 }
 

@@ -1,4 +1,4 @@
-//! Where the originals are expected to part from document 01, told from the input alone: a case
+//! Where the originals are expected to part from the rules, told from the input alone: a case
 //! is exempt by what its roots reach, never by what an engine answered.
 
 use crate::case::{Call, Case};

@@ -1,4 +1,4 @@
-//! The oracle: the Rust originals run on stores in document 01's layout, a model of document 01,
+//! The oracle: the Rust originals run on stores in this engine's layout, a model of the rules,
 //! and what is needed to compare engines with both.
 
 #[cfg(feature = "archive")]

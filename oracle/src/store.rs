@@ -1,4 +1,4 @@
-//! A store of document 01 as a slice of its used cells: the rules for well-formed cells,
+//! A store as a slice of its used cells: the rules for well-formed cells,
 //! following, edges and reach.
 
 use crate::word::{Kind, kind_of};
@@ -63,7 +63,7 @@ pub fn reached(cells: &[u64], from: &[usize]) -> Vec<bool> {
     seen
 }
 
-/// Whether the used cells keep to document 01's rules.
+/// Whether the used cells keep to the rules.
 pub fn well_formed(cells: &[u64]) -> bool {
     let top = cells.len();
     (1..=4096).contains(&top)

@@ -1,4 +1,4 @@
-//! The words of document 01: five kinds of cell, taken apart and built.
+//! The words of a store: five kinds of cell, taken apart and built.
 
 /// '.' as the name of a pair.
 pub const DOT: u32 = '.' as u32;

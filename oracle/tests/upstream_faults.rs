@@ -1,5 +1,5 @@
 //! The faults of the originals on well-formed cells, each on the smallest store found for it (and
-//! some on a plainer one): what the originals do, what document 01 says, and that the input alone
+//! some on a plainer one): what the originals do, what the rules say, and that the input alone
 //! foretells the difference.
 
 use oracle::case::{Case, Engine, Outcome};

@@ -1,5 +1,5 @@
 //! Written here. Stands in for src/atom_table.rs and the `Fixnum` of src/parser/ast.rs.
-//! An atom is its number in document 01, so the table is the numbering itself.
+//! An atom is its number in the word, so the table is the numbering itself.
 
 pub use registry::prelude::*;
 

@@ -1,4 +1,4 @@
-//! Written here. The boundary between the words of document 01 and the cells of types.rs: other
+//! Written here. The boundary between this engine's words and the cells of types.rs: other
 //! tags, arity in other bits, and the mark and forwarding bits swapped.
 
 use crate::atom_table::{Atom, AtomCell};
@@ -9,7 +9,7 @@ const MARK: u32 = 56;
 const FORWARDING: u32 = 57;
 const TAG: u32 = 58;
 
-/// The tag of a word that has no counterpart in document 01. No well-formed store holds it.
+/// The tag of a word that has no counterpart here. No well-formed store holds it.
 const FOREIGN: u64 = 63;
 
 const KINDS: [(u64, HeapCellValueTag); 5] = [

@@ -1,4 +1,4 @@
-//! Written here. Runs the originals on a store in document 01's layout. Each run has a budget of heap accesses
+//! Written here. Runs the originals on a store in this engine's layout. Each run has a budget of heap accesses
 //! and is guarded: it answers, or says how it was stopped.
 
 use crate::layout::{cell_of_word, word_of_cell};

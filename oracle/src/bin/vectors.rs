@@ -1,4 +1,4 @@
-//! Prints a sample of cases on which the originals agree with document 01, with what each comes to:
+//! Prints a sample of cases on which the originals agree with the rules, with what each comes to:
 //! the list that a proved program replays without the originals. The sample is the same each time.
 //!
 //! A line is one case, in hexadecimal numbers:

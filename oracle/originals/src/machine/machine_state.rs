@@ -40,7 +40,7 @@ impl MachineState {
         heap_bound_deref(&self.heap, cell)
     }
 
-    /// Binds as document 01 says, since `bind` is not among the originals at hand: of two
+    /// Binds as the rules say, since `bind` is not among the originals at hand: of two
     /// variables the higher names the lower, and else the variable gets the word.
     pub fn bind(&mut self, var: Ref, value: HeapCellValue) {
         match value.as_var() {
