@@ -23,6 +23,7 @@ pub mod FiniteTerms
 pub mod TermOf
 pub mod Checked
 pub mod PlainThenTest
+pub mod Flat
 -- What the calls promise.
 pub mod Asked
 pub mod Theorems

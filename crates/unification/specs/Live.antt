@@ -18,7 +18,7 @@ use Rattle.unification.specs.Calls.{unbound}
 use Rattle.unification.specs.Cases.{Apart, Case, binds, binds′, joins, parts, case, act-is}
 use Rattle.unification.specs.Nodes.{end-term, look-end, free-end, var-look, node-args}
 use Rattle.unification.specs.Seen.{Seen, seenOf, pushed, apply, All, all-map, all-args}
-use Rattle.unification.specs.Write.{Bindable, write-store, write-term, write-shape, write-look, word-v, write-bound, write-count}
+use Rattle.unification.specs.Write.{Bindable, write-store, write-term, write-shape, write-look, word-v, write-bound, write-target, write-count}
 use Rattle.unification.specs.Weight.{Classed, weight, level, classed-step, classed-start, weight-start}
 use Rattle.unification.specs.Wrote.{Wrote, wrote-start, wrote-more}
 use Rattle.unification.specs.Occurs.{Below, stops-below, passes-clear}
@@ -172,6 +172,7 @@ module _ (s : State) (f : ℕ) (m : Machine) (p : ℕ × ℕ) (rest : List (ℕ 
         wrote-more s (m .cells) (m .trail) (m .trailed) (l .wrote) v (getD (m .cells) y 0) (b .low-v) (b .high-v) (omega arith)
             (word-v (m .cells) top (l .store) v y x b)
             (write-bound (m .cells) top (l .store) v y x b)
+            (write-target (m .cells) top (l .store) v y x b)
             (write-count (m .cells) top (l .store) v y x b),
       )
   kept (join n k) (joins _ _ ea eb q z) =

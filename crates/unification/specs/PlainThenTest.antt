@@ -53,7 +53,7 @@ pub passed : (top f : ℕ) (m z : Machine) → run true top f m ≡ yes z → ru
 passed top f m z e = ⊎-elim (λ q. sym q ∙ e) (λ q. let d : occurs ≡ yes z = sym q ∙ e in let y : _≡_ {A = ℕ} 0 1 = cc in absurd (omega arith)) (same-or-occurs top f m)
 
 -- ---- bindings only add: a cell shows what it showed, or what its variable shows
-abbrev Grows : (ℕ → View) → View → View → Type 0
+abbrev pub Grows : (ℕ → View) → View → View → Type 0
 Grows look (free v) y = y ≡ look v
 Grows look (con c) y = y ≡ con c
 Grows look (nod n) y = y ≡ nod n
@@ -127,7 +127,7 @@ module _ (s : State) (wf : WellFormed (s .cells) (s .top)) (a b : ℕ) (live : L
     pub roots-agree : (d : ℕ) → Agree sh (lookAt (m .cells) (s .top)) d a b
     roots-agree = let h = good-end in yes-agrees sh a b (lookAt (m .cells) (s .top)) (m .classes) (rw (h .3) at (h .2))
 
-    later-end : Later look₀ (seenOf (s .top) m)
+    pub later-end : Later look₀ (seenOf (s .top) m)
     later-end =
         let h : (f : ℕ) × Live s f m × Later look₀ (seenOf (s .top) m) × (m .pairs ≡ []) =
         subst (Ends s (Later look₀) (Unit {0}) (Unit {0})) e
@@ -151,6 +151,19 @@ module _ (s : State) (wf : WellFormed (s .cells) (s .top)) (a b : ℕ) (live : L
 
     same-shape : shapeOf (m .cells) ≡ sh
     same-shape = live-end .1 .shape
+
+    -- a root that stands for a finite term reaches no cycle
+    pub finite-straight : (i : ℕ) → termAt (s .cells) (s .top) i ≡ true → (t : Term) → Stands sh look t i → cyclicAt (m .cells) (s .top) i ≡ false
+    finite-straight i p t h = at (cyclicAt (m .cells) (s .top) i) refl
+      where
+        there : termAt (m .cells) (s .top) i ≡ true
+        there = term-shape (s .cells) (m .cells) (s .top) i (sym same-shape) p
+
+        at : (c : Bool) → cyclicAt (m .cells) (s .top) i ≡ c → c ≡ false
+        at true q =
+            let u = term-used (m .cells) (s .top) i there in
+            absurd (stands-acyclic (m .cells) (s .top) wf′ i there t (subst (λ (x : Shape). Stands x look t i) (sym same-shape) h) (true-cyclic (m .cells) (s .top) wf′ i (u .0) (u .1) q))
+        at false q = refl
 
     now-is : (t : Term) (v : ℕ) → termAt (s .cells) (s .top) v ≡ true → Stands sh look t v → now v ≡ t
     now-is t v p h = term-is (m .cells) (s .top) wf′ t v (term-shape (s .cells) (m .cells) (s .top) v (sym same-shape) p) (subst (λ (x : Shape). Stands x look t v) (sym same-shape) h)
@@ -190,17 +203,8 @@ module _ (s : State) (wf : WellFormed (s .cells) (s .top)) (a b : ℕ) (live : L
 
     -- a checked yes is the plain yes, and the root reaches no cycle
     pub checked-then : (m : Machine) → checkedRun ≡ yes m → (plainRun ≡ yes m) × (cyclicAt (m .cells) (s .top) a ≡ false)
-    checked-then m e = (passed (s .top) (fuel (s .top)) (start s a b) m e, at (cyclicAt (m .cells) (s .top) a) refl)
-      where
-        stands : StandsAt (m .cells) (s .top) (inst (came s wf a b live ta tb t t′ ht ht′ m e) t) a
-        stands = subst (λ (x : Shape). Stands x (lookAt (m .cells) (s .top)) (inst (came s wf a b live ta tb t t′ ht ht′ m e) t) a) (sym (same-shape true m e)) (came-stands s wf a b live ta tb t t′ ht ht′ m e a t ht)
-
-        term-a : termAt (m .cells) (s .top) a ≡ true
-        term-a = term-shape (s .cells) (m .cells) (s .top) a (sym (same-shape true m e)) ta
-
-        at : (c : Bool) → cyclicAt (m .cells) (s .top) a ≡ c → c ≡ false
-        at true q = let u = term-used (m .cells) (s .top) a term-a in absurd (stands-acyclic (m .cells) (s .top) (wf′ true m e) a term-a (inst (came s wf a b live ta tb t t′ ht ht′ m e) t) stands (true-cyclic (m .cells) (s .top) (wf′ true m e) a (u .0) (u .1) q))
-        at false q = refl
+    checked-then m e =
+        (passed (s .top) (fuel (s .top)) (start s a b) m e, finite-straight true m e a ta (inst (came s wf a b live ta tb t t′ ht ht′ m e) t) (came-stands s wf a b live ta tb t t′ ht ht′ m e a t ht))
 
     -- a plain yes after which the root reaches no cycle is the checked yes
     pub acyclic-then : (m : Machine) → plainRun ≡ yes m → cyclicAt (m .cells) (s .top) a ≡ false → checkedRun ≡ yes m

@@ -215,6 +215,13 @@ module _ (s : List ℕ) (top : ℕ) (wf : WellFormed s top) (v e : ℕ) (x : Vie
       let is : kindAt s e ≡ Var v = ap kindOf (sym at-v ∙ q) ∙ word-var v (omega arith) in
       (k .apart) (sym (k .stays) ∙ ap (stepKind e) is)
 
+  -- a Var that v now names is unbound
+  pub write-target : (t : ℕ) → kindAt s e ≡ Var t → getD s t 0 ≡ varWord t
+  unfolding step stepKind
+  write-target t q =
+      let z : t ≡ e = sym (ap (stepKind e) q) ∙ k .stays in
+      ap (λ (j : ℕ). getD s j 0) z ∙ var-word (getD s e 0) t q
+
   pub write-count : unbound s top ≡ unbound new top + 1
   unfolding unbound
   write-count =

@@ -11,7 +11,9 @@ use lib.ListN.{length, getD, set, length-set}
 use lib.Seq.{getD-set-same, getD-set-other, ext-getD}
 use borrow.Author.Tests.{le-leb, lt-ltb, eqb-false, eq-eqb, ne-eqb, not-true}
 use Rattle.cell.specs.Word.{varWord}
-use Rattle.store.specs.Store.{wellFormed}
+use Rattle.cell.specs.Kinds.{kindOf}
+use Rattle.cell.specs.declared.Kind.the-variants.{Var}
+use Rattle.store.specs.Store.{kindAt, wellFormed}
 use Rattle.trail.specs.Rules.{namesBound, unboundAt}
 use Rattle.trail.specs.State.{State, stateOf}
 use Rattle.trail.specs.Seen.{Named}
@@ -33,6 +35,8 @@ pub record Wrote (s : State) (cells trail : List ℕ) (trailed : ℕ) : Type 0 w
   pub used : (i : ℕ) → s .trailed ≤ i → i < trailed → (1 ≤ getD trail i 0) × (getD trail i 0 < s .top)
   pub free : (i : ℕ) → s .trailed ≤ i → i < trailed → getD (s .cells) (getD trail i 0) 0 ≡ varWord (getD trail i 0)
   pub bound : (i : ℕ) → s .trailed ≤ i → i < trailed → getD cells (getD trail i 0) 0 ≡ varWord (getD trail i 0) → ⊥
+  -- and that, if it is a bound Var now, names one that was unbound too
+  pub target : (i : ℕ) → s .trailed ≤ i → i < trailed → (w : ℕ) → kindAt cells (getD trail i 0) ≡ Var w → getD (s .cells) w 0 ≡ varWord w
   -- all are different
   pub apart : (i j : ℕ) → s .trailed ≤ j → j < i → i < trailed → getD trail j 0 ≡ getD trail i 0 → ⊥
   -- a cell that no new entry names is as it was
@@ -51,6 +55,7 @@ wrote-start s r =
       used = λ i a b. absurd (omega arith);
       free = λ i a b. absurd (omega arith);
       bound = λ i a b. absurd (omega arith);
+      target = λ i a b. absurd (omega arith);
       apart = λ i j a b c. absurd (omega arith);
       same = λ j. inl refl;
     }
@@ -114,7 +119,7 @@ module _ (s : State) (cells trail : List ℕ) (trailed : ℕ) (w : Wrote s cells
       omega arith
 
   -- one write
-  module _ (v x : ℕ) (l : 1 ≤ v) (h : v < s .top) (here : v < length cells) (e : getD cells v 0 ≡ varWord v) (n : getD (set cells v x) v 0 ≡ varWord v → ⊥) (less : unbound cells (s .top) ≡ unbound (set cells v x) (s .top) + 1) where
+  module _ (v x : ℕ) (l : 1 ≤ v) (h : v < s .top) (here : v < length cells) (e : getD cells v 0 ≡ varWord v) (n : getD (set cells v x) v 0 ≡ varWord v → ⊥) (to : (t : ℕ) → kindOf x ≡ Var t → getD cells t 0 ≡ varWord t) (less : unbound cells (s .top) ≡ unbound (set cells v x) (s .top) + 1) where
     abbrev entries : List ℕ
     entries = set trail trailed v
 
@@ -134,6 +139,9 @@ module _ (s : State) (cells trail : List ℕ) (trailed : ℕ) (w : Wrote s cells
 
     still : (i : ℕ) → s .trailed ≤ i → i < trailed → getD (set cells v x) (getD trail i 0) 0 ≡ varWord (getD trail i 0) → ⊥
     still i a b z = w .bound i a b (sym (getD-set-other cells v (getD trail i 0) x 0 (not-named v e i a b)) ∙ z)
+
+    aims : (i : ℕ) → s .trailed ≤ i → i < trailed → (t : ℕ) → kindAt (set cells v x) (getD trail i 0) ≡ Var t → getD (s .cells) t 0 ≡ varWord t
+    aims i a b t z = w .target i a b t (ap kindOf (sym (getD-set-other cells v (getD trail i 0) x 0 (not-named v e i a b))) ∙ z)
 
     differ : (i j : ℕ) → s .trailed ≤ j → j < i → i < trailed + 1 → getD entries j 0 ≡ getD entries i 0 → ⊥
     differ i j a b c q =
@@ -165,6 +173,7 @@ module _ (s : State) (cells trail : List ℕ) (trailed : ℕ) (w : Wrote s cells
           used = each (λ (y : ℕ). (1 ≤ y) × (y < s .top)) (l, h) (w .used);
           free = each (λ (y : ℕ). getD (s .cells) y 0 ≡ varWord y) (old-free v e) (w .free);
           bound = each (λ (y : ℕ). getD (set cells v x) y 0 ≡ varWord y → ⊥) n still;
+          target = each (λ (y : ℕ). (t : ℕ) → kindAt (set cells v x) y ≡ Var t → getD (s .cells) t 0 ≡ varWord t) (λ t z. old-free t (to t (ap kindOf (sym (getD-set-same cells v x 0 here)) ∙ z))) aims;
           apart = differ;
           same = same-or;
         }

@@ -4,9 +4,7 @@ use mathlib.Core.Bool.{Bool, true, false, not, _&&_, false≢true}
 use mathlib.Core.List.{List, _++_}
 use Prim.Native.Nat.{ℕ, _-_, _≤_}
 use native.Mathlib.Omega.{arith}
-use lib.Dec.{ltb}
 use lib.ListN.{length, getD, replicate}
-use borrow.Author.Tests.{ltb-false}
 use Rattle.store.specs.Store.{limit, termAt, WellFormed}
 use Rattle.store.specs.Steps.{term-used}
 use Rattle.store.specs.Zeros.{zeroed}
@@ -20,7 +18,9 @@ use Rattle.chains.specs.Work.{workNeed, cleared}
 use Rattle.unification.specs.Machine.{Ending, yes, clashes, occurs, late, unified}
 use Rattle.unification.specs.Calls.{Result, answered, plainCheck, plainly, checkedly}
 use Rattle.unification.specs.Nodes.{term-shape}
+use Rattle.unification.specs.TermOf.{finite}
 use Rattle.unification.specs.PlainThenTest.{live-end}
+use Rattle.unification.specs.Flat.{boundFlat, flat-straight}
 use Rattle.unification.specs.Asked.{Asked, asks, checked-asks, asked-store, asked-live, plain-says, checked-says, answered-yes, answered-no}
 use Rattle.unification.specs.Theorems.{plain-then-yes, plain-then-cycle, plain-then-no}
 use Rattle.unify.specs.Internal.{lent, Begins, Ended, Left}
@@ -105,22 +105,23 @@ module _ (checked : Bool) (s : State) (work : List ℕ) (a b : ℕ) (p : Passed 
     abbrev accepts : Bool
     accepts = ok && not (checked && cyclicAt cells (s .top) a)
 
-    -- it did not reach one before, so the test may be left out where nothing was bound
-    pub still-accepts : {v : Bool} → v ≡ (ok && not (checked && ltb (s .trailed) trailed && cyclicAt cells (s .top) a)) → v ≡ accepts
-    unfolding unbind
-    still-accepts e = e ∙ ap (λ (x : Bool). ok && not x) (go checked (p .acyclic) (ltb (s .trailed) trailed) refl)
+    -- it did not reach one before, so the test may be left out where no variable was bound to a compound
+    pub still-accepts : {v : Bool} → v ≡ (ok && not (checked && not (boundFlat cells trail (s .trailed) trailed) && cyclicAt cells (s .top) a)) → v ≡ accepts
+    unfolding unified
+    still-accepts e = e ∙ go checked ok (p .acyclic) (l .ended) (boundFlat cells trail (s .trailed) trailed) refl
       where
-        unbound-same : ltb (s .trailed) trailed ≡ false → cells ≡ s .cells
-        unbound-same f =
-            let n : trailed - s .trailed ≡ 0 = omega (arith, ltb-false (s .trailed) trailed f) in
-            let h = asked-store s work a b (p .asked) .room in
-            let z = l .wrote .cells-size in
-            cells-back s cells trail trailed (l .wrote) (omega arith) cells (rw n)
+        straight : cyclicAt (s .cells) (s .top) a ≡ false → Ended s a b cells trail trailed true → boundFlat cells trail (s .trailed) trailed ≡ true → cyclicAt cells (s .top) a ≡ false
+        straight q (m, h, c, t, n) f =
+            let k = p .asked in
+            let wf = asked-store s work a b k in
+            let o = finite (s .cells) (s .top) wf a (k .left) q in
+            subst (λ (x : List ℕ). cyclicAt x (s .top) a ≡ false) c (flat-straight s wf a b (asked-live s work a b k) m h (rw (c, t, n) f) a (k .left) (o .term) (o .stands))
 
-        go : (c : Bool) → (c ≡ true → Straight s a b) → (x : Bool) → ltb (s .trailed) trailed ≡ x → (c && x && cyclicAt cells (s .top) a) ≡ (c && cyclicAt cells (s .top) a)
-        go false q x f = refl
-        go true q true f = refl
-        go true q false f = sym (ap (λ (c : List ℕ). cyclicAt c (s .top) a) (unbound-same f) ∙ q refl .0)
+        go : (c ok : Bool) → (c ≡ true → Straight s a b) → Ended s a b cells trail trailed ok → (x : Bool) → boundFlat cells trail (s .trailed) trailed ≡ x → (ok && not (c && not x && cyclicAt cells (s .top) a)) ≡ (ok && not (c && cyclicAt cells (s .top) a))
+        go c false q h x f = refl
+        go false true q h x f = refl
+        go true true q h false f = refl
+        go true true q h true f = ap not (sym (straight (q refl .0) h f))
 
     ends-kept : accepts ≡ true → answered s work (unified checked s a b) ≡ kept
     ends-kept = go checked ok (p .acyclic) (l .ended) (cyclicAt cells (s .top) a) refl

@@ -5,16 +5,18 @@ ghost use mathlib.Core.Bool.{true, not, _&&_};
 ghost use Prim.Native.Nat.{ℕ, _-_, _<_, _≤_};
 ghost use lib.Dec.{leb};
 ghost use lib.ListN.{length, getD};
-ghost use Rattle.store.specs.Store.{limit, termAt, WellFormed};
+ghost use Rattle.store.specs.Store.{limit, kindAt, termAt, WellFormed};
 ghost use Rattle.store.specs.Zeros.{zeroed};
 ghost use Rattle.trail.specs.State.{stateOf};
 ghost use Rattle.marks.specs.Unbind.{unbind, Names};
 ghost use Rattle.cycle.specs.Verdict.{cyclicAt};
 ghost use Rattle.unification.specs.Machine.{unified};
 ghost use Rattle.unification.specs.Calls.{freeAt, unbound, plainCheck, checkedCheck, answered, plainly, checkedly};
+ghost use Rattle.unification.specs.Flat.{flatKind, boundFlat};
 ghost use Rattle.unify.specs.Internal.{lent};
 ghost use Rattle.unifier.specs.Answers.{saidOf};
 ghost use Rattle.unifier.specs.Settling.{Passed};
+use cell::Kind;
 use cell::Refusal;
 use trail::Answer;
 
@@ -117,11 +119,47 @@ fn checked_check(
     Answer::Done
 }
 
+// Whether a cell holds neither a Str nor a Lis.
+fn flat_at(cells: &[u64], i: usize) -> bool
+    requires { ⌜ i < length (now cells) ⌝ }
+    ensures { λ r. ⌜ r ≡ flatKind (kindAt (now (cells .entry)) i) ⌝ }
+{
+    match store::kind_at(cells, i) {
+        Kind::Str(_) => false,
+        Kind::Lis(_) => false,
+        _ => true,
+    }
+}
+
+// Whether the cells that the trail names from a place to another hold neither a Str nor a Lis.
+fn bound_flat(cells: &[u64], trail: &[u64], from: usize, to: usize) -> bool
+    requires { ⌜ Names (now trail) from to (length (now cells)) ⌝ }
+    ensures { λ r. ⌜ r ≡ boundFlat (now (cells .entry)) (now (trail .entry)) from to ⌝ }
+{
+    let mut i = from;
+    while i < to {
+        if !flat_at(cells, trail[i] as usize) {
+            return false;
+        }
+        i += 1;
+    }
+    true
+}
+
 // Whether the answer is yes: of a checked call only where the root reaches no cycle after the run.
-// It did not before, so there is nothing to test where nothing was bound.
-fn accepted(cells: &[u64], top: usize, a: usize, ok: bool, checked: bool, bound: bool) -> bool
-    requires { ⌜ (ok ≡ true → WellFormed (now cells) top × (termAt (now cells) top a ≡ true)) ⌝ }
-    ensures { λ r. ⌜ r ≡ (ok && not (checked && bound && cyclicAt (now (cells .entry)) top a)) ⌝ }
+// It did not before, so there is nothing to test where no variable was bound to a compound.
+fn accepted(
+    cells: &[u64],
+    top: usize,
+    trail: &[u64],
+    from: usize,
+    to: usize,
+    a: usize,
+    ok: bool,
+    checked: bool,
+) -> bool
+    requires { ⌜ (ok ≡ true → WellFormed (now cells) top × (termAt (now cells) top a ≡ true)) × Names (now trail) from to (length (now cells)) ⌝ }
+    ensures { λ r. ⌜ r ≡ (ok && not (checked && not (boundFlat (now (cells .entry)) (now (trail .entry)) from to) && cyclicAt (now (cells .entry)) top a)) ⌝ }
 {
     if !ok {
         return false;
@@ -129,7 +167,7 @@ fn accepted(cells: &[u64], top: usize, a: usize, ok: bool, checked: bool, bound:
     if !checked {
         return true;
     }
-    if !bound {
+    if bound_flat(cells, trail, from, to) {
         return true;
     }
     !cycle::cyclic(cells, top, a)
@@ -164,7 +202,7 @@ fn settle(
     let to = run.trailed;
     let n = chains::work_need(top);
     chains::clear(work, n);
-    if accepted(cells, top, a, run.ok, checked, from < to) {
+    if accepted(cells, top, trail, from, to, a, run.ok, checked) {
         *trailed = to;
         return Unified::Yes;
     }

@@ -13,7 +13,7 @@ abbrev ran : tie.After-work-need → tie.After-unify-internal
 ran c = c .before .before .before .before .before .before .before
 
 abbrev counted : tie.After-accepted → tie.After-work-need
-counted c = c .before .before .before .before .before .before
+counted c = c .before .before .before .before .before .before .before
 
 unify-internal-requires : tie.Need-unify-internal-requires
 unify-internal-requires c κs = begins _ _ _ _ _ (c .before .before .before .before .before .before .before .pre)
@@ -32,8 +32,10 @@ clear-requires c κs =
 
 accepted-requires : tie.Need-accepted-requires
 accepted-requires c κs =
-    let r = ran (c .before .before .before .before .before) in
-    yes-store _ _ _ _ _ (begin r .pre) _ _ _ _ _ (r .unify-internal .ensures)
+    let r = ran (c .before .before .before .before .before .before) in
+    let p = begin r .pre in
+    let l = r .unify-internal .ensures in
+    (yes-store _ _ _ _ _ p _ _ _ _ _ l, undoable _ _ _ _ _ p _ _ _ _ _ l .0)
 
 same-length : tie.Need-same-length
 same-length c = search needs
@@ -49,7 +51,7 @@ returns c =
     let d = c .before in
     let n = counted d in
     let r = ran n in
-    settled-yes _ _ _ _ _ (begin r .pre) _ _ _ _ _ (r .unify-internal .ensures) _ _ (n .work-need .ensures) (d .before .before .before .before .clear .ensures) _ (still-accepts _ _ _ _ _ (begin r .pre) _ _ _ _ _ (r .unify-internal .ensures) (d .accepted .ensures)) (c .if1 .taken)
+    settled-yes _ _ _ _ _ (begin r .pre) _ _ _ _ _ (r .unify-internal .ensures) _ _ (n .work-need .ensures) (d .before .before .before .before .before .clear .ensures) _ (still-accepts _ _ _ _ _ (begin r .pre) _ _ _ _ _ (r .unify-internal .ensures) (d .accepted .ensures)) (c .if1 .taken)
 
 undo-requires : tie.Need-undo-requires
 undo-requires c κs =
@@ -72,7 +74,7 @@ returns-2 c =
     let d = e .before in
     let n = counted d in
     let r = ran n in
-    settled-no _ _ _ _ _ (begin r .pre) _ _ _ _ _ (r .unify-internal .ensures) _ _ (n .work-need .ensures) (d .before .before .before .before .clear .ensures) _ (still-accepts _ _ _ _ _ (begin r .pre) _ _ _ _ _ (r .unify-internal .ensures) (d .accepted .ensures)) (e .if1 .left) _ _ (u .undo .ensures .0) (u .undo .ensures .1)
+    settled-no _ _ _ _ _ (begin r .pre) _ _ _ _ _ (r .unify-internal .ensures) _ _ (n .work-need .ensures) (d .before .before .before .before .before .clear .ensures) _ (still-accepts _ _ _ _ _ (begin r .pre) _ _ _ _ _ (r .unify-internal .ensures) (d .accepted .ensures)) (e .if1 .left) _ _ (u .undo .ensures .0) (u .undo .ensures .1)
 
 pub settle-spec : {M : Type 1} → statement M
 settle-spec =
