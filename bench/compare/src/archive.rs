@@ -5,7 +5,11 @@ use trisculap_reference::calls::{Call, Store};
 
 /// Makes a call, answering as the reference's `perform` does.
 pub fn perform(store: &mut Store, call: &Call) -> Result<u64, u64> {
-    on_lent_words(store, call).map_err(|refusal| refusal as u64)
+    let answer = match *call {
+        Call::Number(n) => trisculap::number(n),
+        _ => on_lent_words(store, call),
+    };
+    answer.map_err(|refusal| refusal as u64)
 }
 
 fn on_lent_words(store: &mut Store, call: &Call) -> Result<u64, Refusal> {
@@ -23,7 +27,7 @@ fn on_lent_words(store: &mut Store, call: &Call) -> Result<u64, Refusal> {
     let verdict = |yes| yes as u64;
     let answer = match *call {
         Call::Check => lent.check().map(done),
-        Call::Number(n) => trisculap::number(n),
+        Call::Number(_) => unreachable!("it is lent nothing"),
         Call::Follow(at) => lent.follow(at),
         Call::Append(ref words) => lent.append(words).map(place),
         Call::Mark => lent.mark().map(place),
