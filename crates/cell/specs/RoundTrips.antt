@@ -32,13 +32,13 @@ module _ (n a : ℕ) (hn : n < 2 ^ 32) (ha : a < 2 ^ arityBits) where
 -- a kind whose numbers fit is read back from its word
 pub kind-back : (k : Kind) → Proper k → kindOf (wordOfKind k) ≡ k
 unfolding Proper wordOfKind
-kind-back (Var v) h = sym (is-var _ (omega arith) (omega arith) v (omega arith) (omega arith))
-kind-back (Str v) h = sym (is-str _ (omega arith) (omega arith) v (omega arith) (omega arith))
-kind-back (Lis v) h = sym (is-lis _ (omega arith) (omega arith) v (omega arith) (omega arith))
-kind-back (Atom n a) h = sym (is-atom _ (omega arith) (omega arith) n a (omega arith) (spare-back n a (h .0) (h .1)) (omega arith) (arity-back n a (h .0) (h .1)))
+kind-back (Var v) h = sym (is-var _ (omega arith) v (omega arith))
+kind-back (Str v) h = sym (is-str _ (omega arith) v (omega arith))
+kind-back (Lis v) h = sym (is-lis _ (omega arith) v (omega arith))
+kind-back (Atom n a) h = sym (is-atom _ (omega arith) n a (spare-back n a (h .0) (h .1)) (omega arith) (arity-back n a (h .0) (h .1)))
 kind-back (Fixnum z) h =
     let l = value-lt z h in
-    sym (is-fixnum _ (omega arith) (omega arith) z (omega arith) (sym (number-back z h) ∙ ap toNumber (omega arith)))
+    sym (is-fixnum _ (omega arith) z (sym (number-back z h) ∙ ap toNumber (omega arith)))
 kind-back Bad h = absurd h
 
 -- a word that keeps to a row is built again from its kind

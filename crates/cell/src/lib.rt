@@ -70,22 +70,11 @@ pub const FIXNUM_MIN: i64 = -0x0080_0000_0000_0000;
 
 pub const FIXNUM_MAX: i64 = 0x007F_FFFF_FFFF_FFFF;
 
+// The tag with the forwarding and the mark bit below it: four times the tag where both are clear.
 fn get_tag(w: u64) -> u64
-    ensures { λ r. ⌜ r ≡ tagOf w ⌝ }
+    ensures { λ r. ⌜ r ≡ 4 * tagOf w + 2 * forwardOf w + markOf w ⌝ }
 {
-    w >> 58
-}
-
-fn get_forwarding_bit(w: u64) -> u64
-    ensures { λ r. ⌜ r ≡ forwardOf w ⌝ }
-{
-    (w >> 57) & 1
-}
-
-fn get_mark_bit(w: u64) -> u64
-    ensures { λ r. ⌜ r ≡ markOf w ⌝ }
-{
-    (w >> 56) & 1
+    w >> 56
 }
 
 fn get_value(w: u64) -> u64
@@ -145,19 +134,13 @@ fn get_num(v: u64) -> i64
 pub fn kind_of(w: u64) -> Kind
     ensures { λ r. ⌜ r ≡ kindOf w ⌝ }
 {
-    if get_forwarding_bit(w) != 0 {
-        return Kind::Bad;
-    }
-    if get_mark_bit(w) != 0 {
-        return Kind::Bad;
-    }
     let t = get_tag(w);
     let v = get_value(w);
     match t {
-        1 => Kind::Var(v as usize),
-        2 => Kind::Str(v as usize),
-        3 => Kind::Lis(v as usize),
-        4 => {
+        4 => Kind::Var(v as usize),
+        8 => Kind::Str(v as usize),
+        12 => Kind::Lis(v as usize),
+        16 => {
             if get_spare(w) == 0 {
                 Kind::Atom {
                     name: get_name(w),
@@ -167,7 +150,7 @@ pub fn kind_of(w: u64) -> Kind
                 Kind::Bad
             }
         }
-        5 => Kind::Fixnum(get_num(v)),
+        20 => Kind::Fixnum(get_num(v)),
         _ => Kind::Bad,
     }
 }
