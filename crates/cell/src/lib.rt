@@ -71,7 +71,7 @@ pub const FIXNUM_MIN: i64 = -0x0080_0000_0000_0000;
 pub const FIXNUM_MAX: i64 = 0x007F_FFFF_FFFF_FFFF;
 
 // The tag with the forwarding and the mark bit below it: four times the tag where both are clear.
-fn get_tag(w: u64) -> u64
+fn get_tag_bits(w: u64) -> u64
     ensures { λ r. ⌜ r ≡ 4 * tagOf w + 2 * forwardOf w + markOf w ⌝ }
 {
     w >> 56
@@ -134,7 +134,7 @@ fn get_num(v: u64) -> i64
 pub fn kind_of(w: u64) -> Kind
     ensures { λ r. ⌜ r ≡ kindOf w ⌝ }
 {
-    let t = get_tag(w);
+    let t = get_tag_bits(w);
     let v = get_value(w);
     match t {
         4 => Kind::Var(v as usize),

@@ -24,7 +24,6 @@ use Rattle.unification.specs.Machine.{Machine, yes, run, start, fuel}
 use Rattle.unification.specs.Substitution.{inst, insts, many-insts, nth-insts}
 use Rattle.unification.specs.Nodes.{free-self, free-used, free-end}
 use Rattle.unification.specs.Write.{var-word, word-var}
-use Rattle.unification.specs.Wrote.{Wrote}
 use Rattle.unification.specs.Live.{Live}
 use Rattle.unification.specs.PlainThenTest.{Grows, live-end, later-end, finite-straight}
 
@@ -51,6 +50,7 @@ Simple (free v) = Unit {0}
 Simple (con c) = Unit {0}
 Simple (nod n) = ⊥
 
+-- a cell that stays and holds neither a Str nor a Lis shows one
 flat-view : (cells : List ℕ) (k : Kind) → flatKind k ≡ true → Simple (viewKind cells k)
 unfolding flatKind viewKind
 flat-view cells (Var v) h = tt
@@ -87,9 +87,11 @@ module _ (s : State) (wf : WellFormed (s .cells) (s .top)) (a b : ℕ) (live : L
   Was i = getD (s .cells) i 0 ≡ varWord i
 
   -- ---- what a variable has come to
+  -- it is unbound still, if its word is the same
   still : (i : ℕ) → i < top → Was i → getD (m .cells) i 0 ≡ getD (s .cells) i 0 → kindAt (m .cells) i ≡ Var i
   still i h u q = let g = wf .high in ap kindOf (q ∙ u) ∙ word-var i (omega arith)
 
+  -- it holds neither a Str nor a Lis now
   flat-here : (i : ℕ) → i < top → Was i → flatKind (kindAt (m .cells) i) ≡ true
   unfolding flatKind boundFlat
   flat-here i h u =
@@ -121,9 +123,11 @@ module _ (s : State) (wf : WellFormed (s .cells) (s .top)) (a b : ℕ) (live : L
       (λ i l h _ r u. subst Simple (sym (look-over (m .cells) top (after .store) i l h)) (r (was-next i h u)))
 
   -- ---- a finite term stays one
+  -- what a variable has come to stand for
   abbrev value : ℕ → Term
   value v = simple (look v)
 
+  -- a cell stands for its term at entry with these put for the variables
   still-stands : (t : Term) (i : ℕ) → Stands sh look₀ t i → Stands sh look (inst value t) i
   unfolding simple
   still-stands = term-ind (λ t. (i : ℕ) → Stands sh look₀ t i → Stands sh look (inst value t) i) vars cons cmps

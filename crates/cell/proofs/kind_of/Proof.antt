@@ -8,8 +8,8 @@ use Rattle.cell.specs.Rows.{row-of, is-var, is-str, is-lis, is-atom, is-
 use Rattle.cell.proofs.kind_of.Statement.{statement}
 use Rattle.cell.proofs.kind_of.Tie as tie
 
-get-tag-requires : tie.Need-get-tag-requires
-get-tag-requires c κs = search needs
+get-tag-bits-requires : tie.Need-get-tag-bits-requires
+get-tag-bits-requires c κs = search needs
 
 get-value-requires : tie.Need-get-value-requires
 get-value-requires c κs = search needs
@@ -45,13 +45,13 @@ returns-6 : tie.Need-returns-6
 returns-6 c = is-fixnum _ (row-of 5 _ (omega arith)) _ (toZ-ofZ (record { sfits = c .get-num .ok }) ∙ c .get-num .ensures ∙ ap toNumber (c .before .before .get-value .ensures))
 
 returns-7 : tie.Need-returns-7
-returns-7 c = is-none _ (c .before .before .get-tag .result) (c .before .before .get-tag .ensures) (omega arith) (omega arith) (omega arith) (omega arith) (omega arith)
+returns-7 c = is-none _ (c .before .before .get-tag-bits .result) (c .before .before .get-tag-bits .ensures) (omega arith) (omega arith) (omega arith) (omega arith) (omega arith)
 
 pub kind-of-spec : {M : Type 1} → statement M
 kind-of-spec =
     tie.close
     (tie.spec
-    get-tag-requires
+    get-tag-bits-requires
     get-value-requires
     get-spare-requires
     get-name-requires
