@@ -70,6 +70,6 @@ module _ (s : List ℕ) (top n : ℕ) where
       go true e = let q = leb-true n (limit - top) e in rw (le-leb (top + n) limit (omega arith), le-leb (top + n) (length s) (omega arith))
       go false e = let q = leb-false n (limit - top) e in rw (lt-leb (top + n) limit (omega arith))
 
--- where m cells fit, fewer fit too
-pub fewer-fit : (free m n : ℕ) → true ≡ leb m free → n ≤ m → true ≡ leb n free
-fewer-fit free m n e h = let q = leb-true m free (sym e) in sym (le-leb n free (omega arith))
+-- where r cells fit, which are m, fewer fit too
+pub fewer-fit : (free r m n : ℕ) → r ≡ m → leb r free ≡ true → n ≤ m → true ≡ leb n free
+fewer-fit free r m n e f h = let q = leb-true r free f in sym (le-leb n free (omega arith))

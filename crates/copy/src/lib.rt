@@ -263,7 +263,7 @@ fn copy_fits(cells: &[u64], top: usize, root: usize) -> bool
     ensures { λ r. ⌜ r ≡ roomFor (now (cells .entry)) top (roomOf (now (cells .entry)) top root) ⌝ }
 {
     let free = free_cells(cells, top);
-    if 2 * top <= 3 * free && cycle::most_within(cells, top, free) {
+    if 2 * top <= 3 * free && cycle::most_room(cells, top) <= free {
         return true;
     }
     cycle::room_within(cells, top, root, free)

@@ -1,12 +1,12 @@
 -- A bound on the room of a copy that takes no walk. A structure of arity 1 or more is counted at its functor cell, one of arity 0 at each Str that names it, and a pair at each Lis that names it; so none that a root reaches is left out.
-use mathlib.Core.Path.{_≡_, refl, sym, ap}
+use mathlib.Core.Path.{_≡_, refl, ap}
 use mathlib.Core.Bool.{Bool, true, false, cond, _&&_, and-eq-true-iff}
 use mathlib.Core.List.{List}
 use Prim.Native.Nat.{ℕ, _+_, _-_, _<_, _≤_}
 use native.Mathlib.Omega.{arith}
 use native.Mathlib.Decide.{ℕ-discrete}
-use lib.Dec.{eqb, leb}
-use borrow.Author.Tests.{eq-eqb, ne-eqb, lt-leb}
+use lib.Dec.{eqb}
+use borrow.Author.Tests.{eq-eqb, ne-eqb}
 use Rattle.cell.specs.declared.Kind.{Kind}
 use Rattle.cell.specs.declared.Kind.the-variants.{Var, Str, Lis, Atom, Fixnum, Bad}
 use Rattle.cell.specs.Kinds.{byTag, kindOf}
@@ -37,18 +37,15 @@ ownFrom s from top = sumFrom from (top - from) (ownRoom s)
 unfoldable pub mostRoom : List ℕ → ℕ → ℕ
 mostRoom s top = 1 + ownFrom s 1 top
 
--- ---- one cell after the other, against a bound
-module _ (s : List ℕ) (top free sum i : ℕ) (so : mostRoom s top ≡ sum + ownFrom s i top) where
+-- ---- one cell after the other
+module _ (s : List ℕ) (top sum i : ℕ) (so : mostRoom s top ≡ sum + ownFrom s i top) where
   pub own-goes : (r : ℕ) → i < top → r ≡ ownRoom s i → mostRoom s top ≡ sum + r + ownFrom s (i + 1) top
   unfolding ownFrom
   own-goes r h e = let g = sum-goes (ownRoom s) i h in omega arith
 
-  pub own-over : free < sum → false ≡ leb (mostRoom s top) free
-  own-over h = sym (lt-leb (mostRoom s top) free (omega arith))
-
-  pub own-done : top ≤ i → leb sum free ≡ leb (mostRoom s top) free
+  pub own-done : top ≤ i → sum ≡ mostRoom s top
   unfolding ownFrom
-  own-done h = let g = sum-done (ownRoom s) i h in let e : sum ≡ mostRoom s top = omega arith in ap (λ (n : ℕ). leb n free) e
+  own-done h = let g = sum-done (ownRoom s) i h in omega arith
 
 -- ---- it is enough
 module _ (s : List ℕ) where

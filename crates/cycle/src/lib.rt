@@ -289,20 +289,16 @@ fn own_room(cells: &[u64], top: usize, i: usize) -> usize
     }
 }
 
-// Whether the most room that a copy of any term in the store can need is at most `free`. It takes no
-// walk, and stops where the sum is too much.
-pub fn most_within(cells: &[u64], top: usize, free: usize) -> bool
-    requires { ⌜ WellFormed (now cells) top × (free ≤ limit) ⌝ }
-    ensures { λ r. ⌜ r ≡ leb (mostRoom (now (cells .entry)) top) free ⌝ }
+// The most room that a copy of any term in the store can need. It takes no walk.
+pub fn most_room(cells: &[u64], top: usize) -> usize
+    requires { ⌜ WellFormed (now cells) top ⌝ }
+    ensures { λ r. ⌜ r ≡ mostRoom (now (cells .entry)) top ⌝ }
 {
     let mut sum: usize = 1;
     let mut i: usize = 1;
     while i < top {
-        if free < sum {
-            return false;
-        }
         sum += own_room(cells, top, i);
         i += 1;
     }
-    sum <= free
+    sum
 }

@@ -1,5 +1,5 @@
 -- `copy::copy_fits` meets its contract: room for the most that a copy can need is room for this one. Assumes nothing.
-use mathlib.Core.Path.{sym, _∙_}
+use mathlib.Core.Path.{_∙_}
 use borrow.Author.Needs.{needs}
 use Rattle.cycle.specs.Most.{most-enough}
 use Rattle.copy.specs.Copying.{fewer-fit}
@@ -15,14 +15,14 @@ mul-if1 c = search needs
 mul-if1-2 : tie.Need-mul-if1-2
 mul-if1-2 c = search needs
 
-most-within-requires : tie.Need-most-within-requires
-most-within-requires c κs = search needs
+most-room-requires : tie.Need-most-room-requires
+most-room-requires c κs = search needs
 
 returns : tie.Need-returns
 returns c =
     let d = c .before .before .before in
     let f = d .before .before in
-    fewer-fit _ _ _ (sym (c .if2 .taken) ∙ c .before .most-within .ensures) (most-enough _ _ (f .pre .0) (f .args .root)) ∙ d .free-cells .ensures .1 _
+    fewer-fit _ _ _ _ (c .before .most-room .ensures) (c .if2 .taken) (most-enough _ _ (f .pre .0) (f .args .root)) ∙ d .free-cells .ensures .1 _
 
 room-within-requires : tie.Need-room-within-requires
 room-within-requires c κs = search needs
@@ -37,7 +37,7 @@ copy-fits-spec =
     free-cells-requires
     mul-if1
     mul-if1-2
-    most-within-requires
+    most-room-requires
     returns
     room-within-requires
     returns-2)
