@@ -5,8 +5,12 @@
  * work word, no count, no answer.
  *
  * Any words, counts, roots and lengths may arrive. Each array is a pointer and its length in words.
- * What the caller must see to: pointers are never null (a length may be 0), they point to as many
- * words as the length says, and nothing that a call may write overlaps anything else it is given.
+ * What the caller must see to: pointers are aligned and never null (a length may be 0), they point to
+ * as many words as the length says, nothing that a call may write overlaps anything else it is given,
+ * nobody else touches the words during a call, and there is stack enough (docs/EMBEDDING.md).
+ *
+ * Names are the caller's, but for atom 46, which is '.': a structure '.' of two arguments is the same
+ * term as a Lis.
  */
 #ifndef TRISCULAP_H
 #define TRISCULAP_H

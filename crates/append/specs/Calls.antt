@@ -11,6 +11,7 @@ use Rattle.append.specs.declared.Placed.{Placed}
 use Rattle.append.specs.declared.Placed.the-variants.{At, Refused}
 use Rattle.append.specs.Laid.{laid}
 
+-- what the answer says
 abbrev pub saidAt : Placed → Outcome
 saidAt (At n) = done n
 saidAt (Refused r) = refused r
@@ -27,5 +28,6 @@ grown s ws = stateOf (laid (s .cells) (s .top) ws) (s .top + length ws) (s .trai
 abbrev pub fits : State → List ℕ → Bool
 fits s ws = wellFormed (grown s ws .cells) (grown s ws .top)
 
+-- an append answers the old `top`; refusals 1, 2, 7 and 9
 unfoldable pub appending : State → List ℕ → Outcome × State
 appending s ws = unless (checkOf s then need (roomFor (s .cells) (s .top) (length ws)) Room then need (fits s ws) Words) s (done (s .top), grown s ws)

@@ -11,6 +11,7 @@ use borrow.Rule.Slice.PartMut.{midOf, putMid}
 use Rattle.store.specs.Part.{mid-is, post-is}
 use Rattle.store.specs.Zeros.{zeroed, zeroed-is}
 
+-- the words ws in place of the first of d
 unfoldable pub front : List ℕ → List ℕ → List ℕ
 front ws d = ws ++ drop (length ws) d
 

@@ -7,9 +7,11 @@ use lib.IntN.{ℤ, pos, negsuc}
 use lib.Dec.{ltb}
 use borrow.Author.Tests.{lt-ltb, le-ltb, ltb-true, ltb-false}
 
+-- the number that 56 bits of two's complement stand for
 unfoldable pub toNumber : ℕ → ℤ
 toNumber v = cond (ltb v (2 ^ 55)) (pos v) (negsuc (2 ^ 56 - suc v))
 
+-- the 56 bits of a number
 unfoldable pub ofNumber : ℤ → ℕ
 ofNumber (pos n) = n
 ofNumber (negsuc n) = 2 ^ 56 - suc n

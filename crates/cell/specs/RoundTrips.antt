@@ -1,4 +1,4 @@
--- From a kind to its word and back, and from a word to its kind and back; three example words.
+-- From a kind to its word and back, from a word to its kind and back, and from a number to its cell and back; three example words.
 use mathlib.Core.Path.{_≡_, refl, sym, ap, subst, _∙_}
 use mathlib.Core.Bool.{Bool, true, false, cond, false≢true}
 use Prim.Native.Nat.{ℕ, _+_, _*_, _/_, _-_, _^_, _<_}

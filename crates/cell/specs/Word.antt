@@ -3,18 +3,23 @@ use mathlib.Core.Path.{_≡_}
 use Prim.Native.Nat.{ℕ, _+_, _-_, _*_, _/_, _%_, _^_, _<_}
 use native.Mathlib.Omega.{arith}
 
+-- bits 58 to 63
 abbrev pub tagOf : ℕ → ℕ
 tagOf w = w / 2 ^ 58
 
+-- bit 57
 abbrev pub forwardOf : ℕ → ℕ
 forwardOf w = w / 2 ^ 57 % 2
 
+-- bit 56
 abbrev pub markOf : ℕ → ℕ
 markOf w = w / 2 ^ 56 % 2
 
+-- bits 0 to 55
 abbrev pub valueOf : ℕ → ℕ
 valueOf w = w % 2 ^ 56
 
+-- an Atom's name, bits 0 to 31
 abbrev pub nameOf : ℕ → ℕ
 nameOf w = w % 2 ^ 32
 
@@ -22,6 +27,7 @@ nameOf w = w % 2 ^ 32
 abbrev pub arityBits : ℕ
 arityBits = 8
 
+-- an Atom's arity, the bits above its name
 abbrev pub arityOf : ℕ → ℕ
 arityOf w = w / 2 ^ 32 % 2 ^ arityBits
 

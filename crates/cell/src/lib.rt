@@ -136,6 +136,7 @@ pub fn kind_of(w: u64) -> Kind
 {
     let t = get_tag_bits(w);
     let v = get_value(w);
+    // Both bits are clear in every row, so these are four times the tags 1 to 5.
     match t {
         4 => Kind::Var(v as usize),
         8 => Kind::Str(v as usize),

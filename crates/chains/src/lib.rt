@@ -1,6 +1,6 @@
 // Following along chains of Vars with shortcuts: a part of the work buffer remembers, for each used
 // cell, a cell further along its chain, so that many cells that lead into one long chain are followed
-// in near-linear time in all.
+// in near-linear time in all. Also how many words of that buffer a call wants, and their clearing.
 ghost use mathlib.Core.Path.{_≡_};
 ghost use Prim.Native.Nat.{_<_, _≤_};
 ghost use lib.ListN.{length};

@@ -78,12 +78,12 @@ module _ (cells work : List ℕ) (end : ℕ) where
           ap (λ (l : List ℕ). stateOf l w e) (at ∙ ap (set c p) k)
           ∙ ap (λ (t : State). stateOf (set (t .cells) p (wordOfKind (Lis (getD (t .tables) (pairAt top l) 0)))) (t .tables) (t .end)) r
 
-    -- an Atom, a Fixnum: the word itself
     three : (x : ℕ) → OneOf (3 ∷ 4 ∷ 5 ∷ []) x → 3 ≤ x
     three x (inl e) = omega arith
     three x (inr (inl e)) = omega arith
     three x (inr (inr e)) = omega arith
 
+    -- an Atom, a Fixnum: the word itself
     pub act-plain : (w : ℕ) (d : List ℕ) (k : Kind) → OneOf (3 ∷ 4 ∷ 5 ∷ []) (tagOf the-type k) → d ≡ set cells p w → stateOf d work end ≡ act top (stateOf cells work end) p w k
     unfolding act put
     act-plain w d (Var v) h e = absurd (let z = three 0 h in omega arith)

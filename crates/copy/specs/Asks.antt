@@ -22,6 +22,7 @@ use Rattle.copy.specs.Follow.{arity-agree, var-used, Good, end-good}
 use Rattle.copy.specs.Steps.{used, word-is, ran, stepped, str-there, lis-there}
 use Rattle.copy.specs.Buffer.{tablesOf, hopsOf, usedWords}
 
+-- the cells, the tables and the count of cells, put together
 abbrev pub stateOf : List ℕ → List ℕ → ℕ → State
 stateOf cells tables end = record { cells = cells; tables = tables; end = end }
 

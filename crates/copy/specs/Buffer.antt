@@ -14,9 +14,11 @@ use Rattle.chains.specs.Chains.{Hops}
 use Rattle.chains.specs.Hops.{hops-none}
 use Rattle.copy.specs.Rules.{tableWords}
 
+-- the part of the work buffer that holds the three tables
 abbrev pub tablesOf : ℕ → List ℕ → List ℕ
 tablesOf top work = take (tableWords top) work
 
+-- the part behind it, where shortcuts along Vars are remembered
 abbrev pub hopsOf : ℕ → List ℕ → List ℕ
 hopsOf top work = drop (tableWords top) work
 

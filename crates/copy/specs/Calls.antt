@@ -20,6 +20,7 @@ pub record Lent : Type 0 where
   pub top : ℕ
   pub work : List ℕ
 
+-- these, put together
 abbrev pub lent : List ℕ → ℕ → List ℕ → Lent
 lent cells top work = record { cells = cells; top = top; work = work }
 

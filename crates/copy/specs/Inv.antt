@@ -66,6 +66,8 @@ module _ (s : List ℕ) (top root : ℕ) where
     pub low : top < end
     -- a run that is noted has its copy among the new cells
     pub run : (b g n : ℕ) → Run tables b g n → (1 ≤ b) × (b + n ≤ top) × (top < g) × (g + n ≤ end)
+    -- two runs have copies apart from each other
+    pub apart : (b g n b′ g′ n′ : ℕ) → Run tables b g n → Run tables b′ g′ n′ → ((b ≡ b′) × (n ≡ n′)) ⊎ ((g + n ≤ g′) ⊎ (g′ + n′ ≤ g))
     -- only structures and pairs that the root reaches are noted
     pub str-reached : (f : ℕ) → f < top → (getD tables f 0 ≡ 0 → ⊥) → StrReached s root f
     pub lis-reached : (l : ℕ) → l < top → (getD tables (top + l) 0 ≡ 0 → ⊥) → LisReached s root l
@@ -165,6 +167,7 @@ module _ (s : List ℕ) (top root : ℕ) where
             bound = omega arith;
             low = I .low;
             run = λ b g n r. I .run b g n (runs b g n r);
+            apart = λ b g n b′ g′ n′ r r′. I .apart b g n b′ g′ n′ (runs b g n r) (runs b′ g′ n′ r′);
             str-reached = λ f l n. I .str-reached f l (λ z. n (marks f (omega arith) ∙ z));
             lis-reached = λ m l n. I .lis-reached m l (λ z. n (marks (top + m) (omega arith) ∙ z));
             raw = λ q x f g. off q (λ z. omega arith) ∙ I .raw q x (down q x f) (omega arith);
@@ -290,6 +293,7 @@ module _ (s : List ℕ) (top root : ℕ) where
           bound = omega arith;
           low = omega arith;
           run = λ b′ g′ n′ r. runs b′ g′ n′ (split b′ g′ n′ r);
+          apart = λ b′ g′ n′ b″ g″ n″ r′ r″. aparts b′ g′ n′ b″ g″ n″ (split b′ g′ n′ r′) (split b″ g″ n″ r″);
           str-reached = str-reached′;
           lis-reached = lis-reached′;
           raw = λ q x f g. raws q x (from-split q x f) g;
@@ -304,6 +308,12 @@ module _ (s : List ℕ) (top root : ℕ) where
         runs : (b′ g′ n′ : ℕ) → Run tables b′ g′ n′ ⊎ ((b′ ≡ b) × (g′ ≡ end) × (n′ ≡ n)) → (1 ≤ b′) × (b′ + n′ ≤ top) × (top < g′) × (g′ + n′ ≤ end + n)
         runs b′ g′ n′ (inl r) = let t = I .run b′ g′ n′ r in let y = t .3 in (t .0, t .1, t .2, omega arith)
         runs b′ g′ n′ (inr (y, z, t)) = let lo = I .low in (omega arith, omega arith, omega arith, omega arith)
+
+        aparts : (b′ g′ n′ b″ g″ n″ : ℕ) → Run tables b′ g′ n′ ⊎ ((b′ ≡ b) × (g′ ≡ end) × (n′ ≡ n)) → Run tables b″ g″ n″ ⊎ ((b″ ≡ b) × (g″ ≡ end) × (n″ ≡ n)) → ((b′ ≡ b″) × (n′ ≡ n″)) ⊎ ((g′ + n′ ≤ g″) ⊎ (g″ + n″ ≤ g′))
+        aparts b′ g′ n′ b″ g″ n″ (inl r′) (inl r″) = I .apart b′ g′ n′ b″ g″ n″ r′ r″
+        aparts b′ g′ n′ b″ g″ n″ (inl r′) (inr (y, z, t)) = inr (inl (let d = I .run b′ g′ n′ r′ .3 in omega arith))
+        aparts b′ g′ n′ b″ g″ n″ (inr (y, z, t)) (inl r″) = inr (inr (let d = I .run b″ g″ n″ r″ .3 in omega arith))
+        aparts b′ g′ n′ b″ g″ n″ (inr (y, z, t)) (inr (y′, z′, t′)) = inl (y ∙ sym y′, t ∙ sym t′)
 
         raws : (q x : ℕ) → From tables q x ⊎ ((k : ℕ) × (k < n) × (q ≡ end + k) × (x ≡ b + k)) → p ≤ q → getD (copyRun n cells b end) q 0 ≡ getD s x 0
         raws q x (inl f) g = before q (below q x f) ∙ I .raw q x f g

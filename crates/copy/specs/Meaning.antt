@@ -11,6 +11,7 @@ use Rattle.trail.specs.Facts.{TrailGood, MarksGood}
 use Rattle.cycle.specs.Graph.{Reach}
 use Rattle.cycle.specs.Kids.{arityAt}
 use Rattle.cycle.specs.Room.{roomOf}
+use Rattle.cycle.specs.Reached.{StrReached, LisReached}
 use Rattle.terms.specs.Term.{Term, variable, constant, compound, Terms, one, more}
 use Rattle.terms.specs.Finite.{StandsAt}
 
@@ -81,6 +82,10 @@ pub record Copy (s : List ℕ) (top root : ℕ) (c : List ℕ) (end : ℕ) : Typ
   pub places : Places
   pub fresh : (v : ℕ) → Variable s root v → (top ≤ places .variables v) × (places .variables v < end) × (kindAt c (places .variables v) ≡ Var (places .variables v))
   pub apart : (v u : ℕ) → Variable s root v → Variable s root u → places .variables v ≡ places .variables u → v ≡ u
+  -- different structures and pairs that are reached have different copies
+  pub structures-apart : (f g : ℕ) → StrReached s root f → StrReached s root g → places .structures f ≡ places .structures g → f ≡ g
+  pub pairs-apart : (l m : ℕ) → LisReached s root l → LisReached s root m → places .pairs l ≡ places .pairs m → l ≡ m
+  pub kinds-apart : (f l : ℕ) → StrReached s root f → LisReached s root l → places .structures f ≡ places .pairs l → ⊥
   -- the copied root and the root agree at every depth; each structure and each pair has one copy
   pub same : (d : ℕ) → Agree s top c places d top root
   -- where the root stands for a finite term, the copy stands for that term with its variables replaced

@@ -29,7 +29,7 @@ use Rattle.copy.specs.Calls.{Lent, flaw, grown, copying}
 use Rattle.copy.specs.Inv.{Given, From, Match, End, Inv}
 use Rattle.copy.specs.Whole.{all-copied}
 use Rattle.copy.specs.Meaning.{Shown, NamesNew, renamed, Copy}
-use Rattle.copy.specs.Same.{at, below, str-run, lis-run, shaped, root-agrees, var-fresh, var-apart, exact-room}
+use Rattle.copy.specs.Same.{at, below, str-run, lis-run, shaped, root-agrees, var-fresh, var-apart, str-apart, lis-apart, mixed-apart, exact-room}
 use Rattle.copy.specs.Formed.{formed}
 use Rattle.copy.specs.Finite.{from-stands}
 
@@ -60,6 +60,9 @@ module _ {s : List ℕ} {top root : ℕ} (gv : Given s top root) where
           places = at gv I;
           fresh = var-fresh gv I;
           apart = var-apart gv I;
+          structures-apart = str-apart gv I;
+          pairs-apart = lis-apart gv I;
+          kinds-apart = mixed-apart gv I;
           same = root-agrees gv I;
           finite = λ t. from-stands gv I t top root (inl (refl, refl));
           well-formed = formed gv I;

@@ -50,6 +50,7 @@ run st i b n =
 unfoldable pub homed : List ℕ → ℕ → ℕ → List ℕ
 homed tables i p = cond (eqb (getD tables i 0) 0) (set tables i p) tables
 
+-- a variable that is met at p has its home
 abbrev pub home : State → ℕ → ℕ → State
 home st i p = record { cells = st .cells; tables = homed (st .tables) i p; end = st .end }
 
@@ -58,7 +59,7 @@ unfoldable pub put : State → ℕ → ℕ → State
 put st p w = record { cells = set (st .cells) p w; tables = st .tables; end = st .end }
 
 -- ---- the scan
--- the word where following a word ends
+-- the word where following a word of this kind ends
 unfoldable pub endKind : List ℕ → ℕ → ℕ → Kind → ℕ
 endKind s top w (Var v) = getD s (endOf s top v) 0
 endKind s top w (Str f) = w
@@ -67,6 +68,7 @@ endKind s top w (Atom n a) = w
 endKind s top w (Fixnum z) = w
 endKind s top w Bad = w
 
+-- the word where following a word ends
 unfoldable pub endWord : List ℕ → ℕ → ℕ → ℕ
 endWord s top w = endKind s top w (kindOf w)
 

@@ -1,21 +1,22 @@
 -- A copied cell shows what its original shows, cell for cell, and every cell that is reached has a copy.
 use mathlib.Core.Path.{_≡_, refl, sym, ap, subst, _∙_}
-use mathlib.Core.Bool.{true, false≢true}
+use mathlib.Core.Bool.{true, _&&_, and-eq-true-iff, false≢true}
 use mathlib.Core.List.{List}
-use mathlib.Core.Logic.{inl, inr}
+use mathlib.Core.Logic.{inl, inr, ⊎-elim}
 use Prim.Native.Nat.{ℕ, zero, suc, _+_, _<_, _≤_}
 use native.Mathlib.Omega.{arith}
 use lib.ListN.{getD}
+use lib.Dec.{leb, ltb}
 use Rattle.cell.specs.declared.Kind.{Kind}
 use Rattle.cell.specs.declared.Kind.the-variants.{Var, Str, Lis, Atom, Fixnum, Bad}
 use Rattle.cell.specs.Kinds.{kindOf, wordOfKind, Proper}
 use Rattle.cell.specs.RoundTrips.{kind-back}
-use Rattle.store.specs.Store.{limit, kindAt, isAtom, step, stepKind, steps, endOf}
+use Rattle.store.specs.Store.{limit, kindAt, isAtom, noHeader, termAt, step, stepKind, steps, endOf}
 use Rattle.store.specs.Steps.{term-used, steps-fixed}
 use Rattle.cycle.specs.Graph.{Edge, bound, arg, first, second, Reach, here, over}
-use Rattle.cycle.specs.Kids.{arityAt, atom-arity}
+use Rattle.cycle.specs.Kids.{arityAt, no-arguments, atom-arity, lis-terms}
 use Rattle.cycle.specs.Room.{strReached, lisReached, roomOf}
-use Rattle.cycle.specs.Reached.{true-str, true-lis, reach-used}
+use Rattle.cycle.specs.Reached.{StrReached, LisReached, true-str, true-lis, reach-used}
 use Rattle.chains.specs.Hops.{chained, next-end}
 use Rattle.copy.specs.Rules.{endKind, endWord}
 use Rattle.copy.specs.Tally.{noted, is-noted, room-le}
@@ -209,6 +210,41 @@ module _ {s : List ℕ} {top root : ℕ} (gv : Given s top root) {cells tables :
   pub var-apart : (v u : ℕ) → Variable s root v → Variable s root u → at .variables v ≡ at .variables u → v ≡ u
   var-apart v u a b e = let n = home-noted v a in let m = home-noted u b in I .single v u (n .0) (m .0) (n .1) e
 
+  -- ---- the structures and pairs that are reached have copies apart from each other
+  str-noted : (f : ℕ) → StrReached s root f → (f < top) × (getD tables f 0 ≡ 0 → ⊥)
+  str-noted f (x, r, e) = str-marked x f e (covered x r)
+
+  lis-noted : (l : ℕ) → LisReached s root l → (l < top) × (getD tables (top + l) 0 ≡ 0 → ⊥)
+  lis-noted l (x, r, e) = lis-marked x l e (covered x r)
+
+  one-run : (b g n b′ g′ n′ : ℕ) → Run s top root tables b g n → Run s top root tables b′ g′ n′ → 1 ≤ n → 1 ≤ n′ → g ≡ g′ → (b ≡ b′) × (n ≡ n′)
+  one-run b g n b′ g′ n′ r r′ l l′ e = ⊎-elim (λ q. q) (λ q. absurd (⊎-elim (λ h. omega arith) (λ h. omega arith) q)) (I .apart b g n b′ g′ n′ r r′)
+
+  pub str-apart : (f h : ℕ) → StrReached s root f → StrReached s root h → at .structures f ≡ at .structures h → f ≡ h
+  str-apart f h a b e =
+      let n = str-noted f a in
+      let m = str-noted h b in
+      one-run f _ _ h _ _ (str-run f (n .0) (n .1)) (str-run h (m .0) (m .1)) (omega arith) (omega arith) e .0
+
+  pub lis-apart : (l m : ℕ) → LisReached s root l → LisReached s root m → at .pairs l ≡ at .pairs m → l ≡ m
+  lis-apart l m a b e =
+      let n = lis-noted l a in
+      let k = lis-noted m b in
+      one-run l _ _ m _ _ (lis-run l (n .0) (n .1)) (lis-run m (k .0) (k .1)) (omega arith) (omega arith) e .0
+
+  -- a pair begins at no header, so it is no structure of one argument
+  pub mixed-apart : (f l : ℕ) → StrReached s root f → LisReached s root l → at .structures f ≡ at .pairs l → ⊥
+  unfolding arityAt termAt
+  mixed-apart f l a (x, r, q) e =
+      let n = str-noted f a in
+      let k = lis-noted l (x, r, q) in
+      let o = one-run f _ _ l _ _ (str-run f (n .0) (n .1)) (lis-run l (k .0) (k .1)) (omega arith) (omega arith) e in
+      let u = term-used s top root (gv .term) in
+      let v = reach-used s top (gv .wf) (u .0) (u .1) r in
+      let z = no-arguments (kindAt s l) (and-eq-true-iff (leb 1 l && ltb l top) (noHeader s l) .0 (lis-terms s top (gv .wf) x (v .0) (v .1) l q .0) .1) in
+      let y : arityAt s f ≡ arityAt s l = ap (arityAt s) (o .0) in
+      omega arith
+
   -- ---- the count of new cells is the room
   pub exact-room : end ≡ top + roomOf s top root
   unfolding roomOf
@@ -217,6 +253,6 @@ module _ {s : List ℕ} {top root : ℕ} (gv : Given s top root) {cells tables :
       let u = term-used s top root (gv .term) in
       let le = fits-in s top root gv tables (I .str-reached) (I .lis-reached) in
       let ge = room-le s top (strReached s top root) (lisReached s top root) (noted tables) (λ l. noted tables (top + l))
-      (λ f a b m. let r = true-str s top (gv .wf) root (u .0) (u .1) f a m in is-noted tables f (str-marked (r .0) f (r .2) (covered (r .0) (r .1)) .1))
-      (λ f a b m. let r = true-lis s top (gv .wf) root (u .0) (u .1) f a m in is-noted tables (top + f) (lis-marked (r .0) f (r .2) (covered (r .0) (r .1)) .1)) in
+      (λ f a b m. is-noted tables f (str-noted f (true-str s top (gv .wf) root (u .0) (u .1) f a m) .1))
+      (λ f a b m. is-noted tables (top + f) (lis-noted f (true-lis s top (gv .wf) root (u .0) (u .1) f a m) .1)) in
       omega arith

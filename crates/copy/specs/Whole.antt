@@ -52,6 +52,7 @@ module _ {s : List ℕ} {top root : ℕ} (gv : Given s top root) where
         bound = omega arith;
         low = omega arith;
         run = λ b g n r. absurd (no-run (replicate (tableWords top) 0) none b g n r);
+        apart = λ b g n _ _ _ r _. absurd (no-run (replicate (tableWords top) 0) none b g n r);
         str-reached = λ f a n. absurd (n (none f));
         lis-reached = λ m a n. absurd (n (none (top + m)));
         raw = λ q x f g. raw q x f;

@@ -91,16 +91,16 @@ fn add_structure(cells: &mut [u64], work: &mut [u64], top: usize, end: usize, f:
     add_run(cells, work, top, end, f, f, 1 + a)
 }
 
-// The home of an unbound variable: `p`, unless one is noted at `i`.
-fn reinstantiate_var(work: &mut [u64], i: usize, p: usize) -> usize
-    requires { ⌜ (i < length (now work)) × (p ≤ limit) × (getD (now work) i 0 ≤ limit) ⌝ }
-    ensures { λ r. ⌜ (now (work .exit) ≡ homed (now (work .entry)) i p) × (r ≡ getD (now (work .exit)) i 0) × (r ≤ limit) ⌝ }
+// The home of an unbound variable: `p`, unless one is noted at `at`.
+fn reinstantiate_var(work: &mut [u64], at: usize, p: usize) -> usize
+    requires { ⌜ (at < length (now work)) × (p ≤ limit) × (getD (now work) at 0 ≤ limit) ⌝ }
+    ensures { λ r. ⌜ (now (work .exit) ≡ homed (now (work .entry)) at p) × (r ≡ getD (now (work .exit)) at 0) × (r ≤ limit) ⌝ }
 {
-    if work[i] == 0 {
-        work[i] = p as u64;
+    if work[at] == 0 {
+        work[at] = p as u64;
         p
     } else {
-        work[i] as usize
+        work[at] as usize
     }
 }
 

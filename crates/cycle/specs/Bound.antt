@@ -57,7 +57,7 @@ module _ (s : List ℕ) (top : ℕ) (wf : WellFormed s top) where
       let z : top ≡ suc (top - 1) = omega arith in
       ap (λ (n : ℕ). sumFrom 0 n (λ x. w (g x))) z ∙ omega arith
 
-  -- where the runs that start at f need at most self f, and one f if some cell names f by heads, and two f if some cell names f by pairs, and where own covers this at each cell
+  -- the bound holds where the runs that start at f need at most self f, and one f if some cell names f by heads, and two f if some cell names f by pairs, and where own covers this at each cell
   pub room-le : (str lis : ℕ → Bool) (self one two heads pairs own : ℕ → ℕ)
       → ((f : ℕ) → 1 ≤ f → runRoom (str f) (lis f) (arityAt s f) ≤ self f + (cond (named heads top f) (one f) 0 + cond (named pairs top f) (two f) 0))
       → one (heads 0) ≡ 0

@@ -39,6 +39,7 @@ no-arguments k h = let n = ltb-false 0 (arityKind k) (sym (header-arity k) ∙ n
 unfoldable pub arityAt : List ℕ → ℕ → ℕ
 arityAt s f = arityKind (kindAt s f)
 
+-- how many edges a cell of this kind has, at i
 unfoldable pub degKind : List ℕ → ℕ → Kind → ℕ
 degKind s i (Var v) = cond (eqb v i) 0 1
 degKind s i (Str f) = arityAt s f
@@ -51,6 +52,7 @@ degKind s i Bad = 0
 unfoldable pub deg : List ℕ → ℕ → ℕ
 deg s i = degKind s i (kindAt s i)
 
+-- where its edge of number k goes
 unfoldable pub kidKind : ℕ → Kind → ℕ
 kidKind k (Var v) = v
 kidKind k (Str f) = f + 1 + k
@@ -63,6 +65,7 @@ kidKind k Bad = 0
 unfoldable pub kid : List ℕ → ℕ → ℕ → ℕ
 kid s i k = kidKind k (kindAt s i)
 
+-- the functor cell that a cell of this kind names
 unfoldable pub headKind : Kind → ℕ
 headKind (Var v) = 0
 headKind (Str f) = f
@@ -75,6 +78,7 @@ headKind Bad = 0
 unfoldable pub head : List ℕ → ℕ → ℕ
 head s i = headKind (kindAt s i)
 
+-- the first cell of the pair that a cell of this kind names
 unfoldable pub pairKind : Kind → ℕ
 pairKind (Var v) = 0
 pairKind (Str f) = 0

@@ -6,12 +6,12 @@ pub mod Kids
 pub mod Links
 pub mod Verdict
 pub mod Room
-pub mod Most
 pub mod Tables
 pub mod Met
 pub mod Counted
 -- Laws of them.
 pub mod Bound
+pub mod Most
 pub mod Ways
 pub mod Cyclic
 pub mod Reached

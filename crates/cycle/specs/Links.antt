@@ -14,6 +14,7 @@ use Rattle.store.specs.Steps.{term-used}
 use Rattle.cycle.specs.Graph.{Edge, bound, arg, first, second, Reaches, here, over, Reach, Accessible, acc, Acc, join, one, spread, acc-ind}
 use Rattle.cycle.specs.Kids.{arityKind, arityAt, no-arguments, pair-edge, edge-kid, kid-term, run-used, str-used, str-atom, lis-terms, atom-arity}
 
+-- how many links a cell of this kind has, at i
 unfoldable pub linksKind : ℕ → Kind → ℕ
 linksKind i (Var v) = cond (eqb v i) 0 1
 linksKind i (Str f) = 1
@@ -26,6 +27,7 @@ linksKind i Bad = 0
 unfoldable pub links : List ℕ → ℕ → ℕ
 links s i = linksKind i (kindAt s i)
 
+-- where its link of number k goes
 unfoldable pub linkKind : ℕ → ℕ → Kind → ℕ
 linkKind i k (Var v) = v
 linkKind i k (Str f) = f
@@ -38,6 +40,7 @@ linkKind i k Bad = 0
 unfoldable pub link : List ℕ → ℕ → ℕ → ℕ
 link s i k = linkKind i k (kindAt s i)
 
+-- a link leads from i to j
 abbrev pub Link : List ℕ → ℕ → ℕ → Type 0
 Link s i j = (k : ℕ) × (k < links s i) × (j ≡ link s i k)
 

@@ -17,6 +17,7 @@ use Rattle.cycle.specs.Kids.{arityKind, arityAt, headKind, head, pairKin
 use Rattle.cycle.specs.Room.{reaches, strReached, lisReached, runRoom, roomOf}
 use Rattle.cycle.specs.Bound.{ifNamed, named-less, named, room-le}
 
+-- the room that is counted at a cell of this kind
 unfoldable pub ownKind : List ℕ → Kind → ℕ
 ownKind s (Var v) = 0
 ownKind s (Str f) = cond (eqb (arityAt s f) 0) 1 0
@@ -49,10 +50,11 @@ module _ (s : List ℕ) (top sum i : ℕ) (so : mostRoom s top ≡ sum + ownFrom
 
 -- ---- it is enough
 module _ (s : List ℕ) where
-  -- by what is counted at the functor cell itself, at a Str that names f, and at a Lis that names f
+  -- what is counted at the functor cell itself
   abbrev self : ℕ → ℕ
   self f = cond (eqb (arityAt s f) 0) 0 (arityAt s f + 1)
 
+  -- and at each Str that names it
   abbrev bare : ℕ → ℕ
   bare f = ifNamed (cond (eqb (arityAt s f) 0) 1 0) f
 

@@ -31,6 +31,7 @@ runRoom str lis arity = cond str (1 + arity) 0 + cond lis 2 0
 unfoldable pub roomFrom : List ℕ → ℕ → ℕ → (ℕ → Bool) → (ℕ → Bool) → ℕ
 roomFrom s from top str lis = sumFrom from (top - from) (λ f. runRoom (str f) (lis f) (arityAt s f))
 
+-- 1, for the root, and the room of the runs
 unfoldable pub roomBy : List ℕ → ℕ → (ℕ → Bool) → (ℕ → Bool) → ℕ
 roomBy s top str lis = 1 + roomFrom s 1 top str lis
 

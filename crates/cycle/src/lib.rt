@@ -1,5 +1,6 @@
-// The cycle verdict, and the other answers that one depth-first walk over the edges of a
-// well-formed store gives: whether either of two roots reaches a cycle, and the room of a copy.
+// The cycle verdict, and the other answers that one depth-first walk over the links of a
+// well-formed store gives: whether either of two roots reaches a cycle, and the room of a copy; and a
+// bound on that room that takes no walk.
 ghost use mathlib.Core.Path.{_≡_};
 ghost use mathlib.Core.Bool.{true, _||_};
 ghost use Prim.Native.Nat.{_+_, _-_, _<_, _≤_};
@@ -87,7 +88,8 @@ struct Seen {
 // Walks all that the root reaches; the root itself was not met before. It goes on after it came to
 // a cell on its own path, so that the finished cells are exactly those reached, and tables may be
 // used again. The path is kept as the links that are left at the cell before each of its cells, the
-// link to it just gone over; the root has none before it.
+// link to it just gone over; the root has none before it. A cell's colour is 0 before it is met, 1 while
+// it is on the path and 2 once it is finished.
 fn walk(
     cells: &[u64],
     top: usize,
@@ -110,8 +112,8 @@ fn walk(
     let mut end = first.end;
     while 0 < sp {
         if next < end {
-            let seen = col[next];
-            match seen {
+            let colour = col[next];
+            match colour {
                 0 => {
                     col[next] = 1;
                     let below = links_of(cells, top, next);

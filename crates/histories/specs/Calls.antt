@@ -14,6 +14,7 @@ pub record Lent : Type 0 where
   pub state : State
   pub work : List ℕ
 
+-- these, put together
 abbrev pub lent : State → List ℕ → Lent
 lent s work = record { state = s; work = work }
 

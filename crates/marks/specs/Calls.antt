@@ -13,6 +13,7 @@ use Rattle.marks.specs.declared.Marked.the-variants.{Number, Refused}
 use Rattle.store.specs.Zeros.{zeroed}
 use Rattle.marks.specs.Unbind.{unbind}
 
+-- what the answer says
 abbrev pub saidMark : Marked → Outcome
 saidMark (Number n) = done n
 saidMark (Refused r) = refused r
@@ -29,6 +30,7 @@ noted s =
 abbrev pub roomToMark : State → Bool
 roomToMark s = leb (markWidth * (s .marked + 1)) (length (s .marks))
 
+-- a mark answers its number; refusals 1, 2 and 7
 unfoldable pub marking : State → Outcome × State
 marking s = unless (checkOf s then need (roomToMark s) Room) s (done (s .marked + 1), noted s)
 
@@ -37,6 +39,7 @@ marking s = unless (checkOf s then need (roomToMark s) Room) s (done (s .marked 
 abbrev pub cutOff : State → ℕ → State
 cutOff s k = stateOf (s .cells) (s .top) (s .trail) (s .trailed) (zeroed (markWidth * k) (s .marks)) k
 
+-- a cut to mark k; refusals 1, 2 and 8
 unfoldable pub cutting : State → ℕ → Outcome × State
 cutting s k = unless (checkOf s then need (leb k (s .marked)) Mark) s (done 0, cutOff s k)
 
@@ -56,5 +59,6 @@ rolled s k =
 unfoldable pub rollCheck : State → ℕ → Answer
 rollCheck s k = checkOf s then need (leb 1 k && leb k (s .marked)) Mark then need (holds (rolled s k)) Left
 
+-- a rollback to mark k; refusals 1, 2, 8 and 10
 unfoldable pub rolling : State → ℕ → Outcome × State
 rolling s k = unless (rollCheck s k) s (done 0, rolled s k)

@@ -42,12 +42,15 @@ rowLeft freed t i (Atom n a) = ltb (i + a) t
 rowLeft freed t i (Fixnum z) = true
 rowLeft freed t i Bad = false
 
+-- cell i becomes unbound, or keeps to its row still
 unfoldable pub keepsLeft : List ℕ → List ℕ → ℕ → ℕ → Bool
 keepsLeft s freed t i = cond (isFreed freed i) true (rowLeft freed t i (kindAt s i))
 
+-- and so each cell that is left
 unfoldable pub cellsLeft : List ℕ → List ℕ → ℕ → Bool
 cellsLeft s freed t = allFrom 1 (t - 1) (keepsLeft s freed t)
 
+-- each trail entry that is left names a cell that is
 unfoldable pub trailLeft : List ℕ → ℕ → ℕ → Bool
 trailLeft trail c t = allFrom 0 c (λ i. ltb (getD trail i 0) t)
 

@@ -44,6 +44,7 @@ pub record Line : Type 0 where
   pub event : Event
   pub struck : Bool
 
+-- these, put together
 abbrev pub line : Call → Outcome → Bool → Line
 line c o b = record { event = record { call = c; outcome = o }; struck = b }
 
@@ -63,6 +64,7 @@ write h (unify b x y) (done n) = h ▸ line (unify b x y) (done n) false
 write h (copy x) (done n) = h ▸ line (copy x) (done n) false
 write h (cut k) (done n) = h ▸ line (cut k) (done n) false
 
+-- a history with its lines struck
 unfoldable pub logbook : Trace Event → Trace Line
 logbook start = start
 logbook (h ▸ e) = write (logbook h) (e .call) (e .outcome)
@@ -83,10 +85,12 @@ standingAfter m (append ws) (done n) = m
 standingAfter m (unify b x y) (done n) = m
 standingAfter m (copy x) (done n) = m
 
+-- after a whole history
 unfoldable pub standing : Trace Event → ℕ
 standing start = 0
 standing (h ▸ e) = standingAfter (standing h) (e .call) (e .outcome)
 
+-- the calls of a history, without their answers
 unfoldable pub calls : Trace Event → Trace Call
 calls start = start
 calls (h ▸ e) = calls h ▸ e .call
@@ -101,6 +105,7 @@ pub record Engine : Type 0 where
   pub mark-room : ℕ
 
 module _ (E : Engine) where
+  -- one call: what it answers, and the state after it
   unfoldable pub step : State → Call → Outcome × State
   step s (append ws) = appending s ws
   step s mark = marking s

@@ -1,4 +1,4 @@
--- A test of each of n numbers from a start on: the one quantifier that the definitions compute with.
+-- A test of each of n numbers from a start on, computed.
 use mathlib.Core.Path.{_≡_, refl, sym, ap, subst, _∙_}
 use mathlib.Core.Bool.{Bool, true, false, _&&_, false≢true, and-eq-true-iff}
 use Prim.Native.Nat.{ℕ, zero, suc, _+_, _-_, _<_, _≤_}

@@ -12,6 +12,7 @@ use Rattle.store.specs.Store.{wellFormed, WellFormed, termAt, step, step
 use Rattle.store.specs.Steps.{steps-fixed, term-used}
 use Rattle.store.specs.WellFormed.{end-stays}
 
+-- a follow answers the word where following ends; refusals 1 and 3
 unfoldable pub followed : List ℕ → ℕ → ℕ → Made
 followed s top at = cond (wellFormed s top) (cond (termAt s top at) (Word (getD s (endOf s top at) 0)) (Refused Root)) (Refused Cells)
 

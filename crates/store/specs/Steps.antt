@@ -27,7 +27,7 @@ module _ (s : List ℕ) where
   unfolding steps
   steps-done i {n} {top} h = let z : top - n ≡ 0 = omega arith in rw z
 
-  -- a used cell from 1 goes to a used cell from 1
+  -- a cell that stands for a term is a used one from 1
   pub term-used : (top v : ℕ) → termAt s top v ≡ true → (1 ≤ v) × (v < top)
   unfolding termAt
   term-used top v h =
@@ -35,6 +35,7 @@ module _ (s : List ℕ) where
       let b = and-eq-true-iff (leb 1 v) (ltb v top) .0 a in
       (leb-true 1 v (b .0), ltb-true v top (b .1))
 
+  -- a used cell from 1 goes to a used cell from 1
   keeps-used : (top i : ℕ) → 1 ≤ i → i < top → (k : Kind) → keeps s top i k ≡ true → (1 ≤ stepKind i k) × (stepKind i k < top)
   unfolding keeps stepKind
   keeps-used top i l h (Var v) e = term-used top v e

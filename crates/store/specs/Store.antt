@@ -28,6 +28,7 @@ isHeader (Atom n a) = ltb 0 a
 isHeader (Fixnum z) = false
 isHeader Bad = false
 
+-- an Atom, of any arity
 unfoldable pub isAtom : Kind → Bool
 isAtom (Var v) = false
 isAtom (Str v) = false
@@ -40,6 +41,7 @@ isAtom Bad = false
 abbrev pub headerAt : List ℕ → ℕ → Bool
 headerAt s i = isHeader (kindAt s i)
 
+-- it is none
 abbrev pub noHeader : List ℕ → ℕ → Bool
 noHeader s i = not (headerAt s i)
 
@@ -64,6 +66,7 @@ keeps s top i (Atom n a) = runAt s top i a
 keeps s top i (Fixnum z) = true
 keeps s top i Bad = false
 
+-- the cell at i keeps to its row
 abbrev pub keepsAt : List ℕ → ℕ → ℕ → Bool
 keepsAt s top i = keeps s top i (kindAt s i)
 
@@ -77,6 +80,7 @@ stepKind i (Atom n a) = i
 stepKind i (Fixnum z) = i
 stepKind i Bad = i
 
+-- one step from the cell at i
 unfoldable pub step : List ℕ → ℕ → ℕ
 step s i = stepKind i (kindAt s i)
 
@@ -93,10 +97,12 @@ Ends s i = (n : ℕ) × (step s (steps s n i) ≡ steps s n i)
 abbrev pub endOf : List ℕ → ℕ → ℕ → ℕ
 endOf s top i = steps s top i
 
+-- following ends, as a test
 unfoldable pub endsAt : List ℕ → ℕ → ℕ → Bool
 endsAt s top i = eqb (step s (endOf s top i)) (endOf s top i)
 
 -- ---- the store
+-- a well-formed store, rule by rule
 pub record WellFormed (s : List ℕ) (top : ℕ) : Type 0 where
   -- `top` is 1 to the limit and at most the lent length
   pub low : 1 ≤ top
@@ -110,6 +116,7 @@ pub record WellFormed (s : List ℕ) (top : ℕ) : Type 0 where
   -- following Vars always ends
   pub ends : (i : ℕ) → 1 ≤ i → i < top → Ends s i
 
+-- the word at i is 0
 abbrev pub isZero : List ℕ → ℕ → Bool
 isZero s i = eqb (getD s i 0) 0
 
@@ -117,12 +124,15 @@ isZero s i = eqb (getD s i 0) 0
 unfoldable pub zeroFrom : List ℕ → ℕ → Bool
 zeroFrom s from = allFrom from (length s - from) (isZero s)
 
+-- each used cell from a place on keeps to its row
 unfoldable pub cellsKeep : List ℕ → ℕ → ℕ → Bool
 cellsKeep s from top = allFrom from (top - from) (keepsAt s top)
 
+-- following ends from each
 unfoldable pub cellsEnd : List ℕ → ℕ → ℕ → Bool
 cellsEnd s from top = allFrom from (top - from) (endsAt s top)
 
+-- the test of all these rules
 unfoldable pub wellFormed : List ℕ → ℕ → Bool
 wellFormed s top =
     leb 1 top && leb top limit && leb top (length s) && eqb (getD s 0 0) 0 && zeroFrom s top && cellsKeep s 1 top && cellsEnd s 1 top

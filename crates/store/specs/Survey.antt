@@ -25,6 +25,7 @@ Stands s top i k Stays = (keeps s top i k ≡ true) × (not (isHeader k) ≡ tru
 Stands s top i k Leads = (keeps s top i k ≡ true) × (not (isHeader k) ≡ true)
 Stands s top i k (Heads a) = (keeps s top i k ≡ runAt s top i a) × (not (isHeader k) ≡ false) × (stepKind i k ≡ i)
 
+-- the cell at i
 abbrev pub StandsAt : List ℕ → ℕ → ℕ → Standing → Type 0
 StandsAt s top i r = Stands s top i (kindAt s i) r
 

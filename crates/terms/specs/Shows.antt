@@ -39,7 +39,7 @@ arity-some s n = go (kindAt s n)
     go (Fixnum z) = (1, refl)
     go Bad = (1, refl)
 
--- a cell that is no header is the first of a pair
+-- a cell that is no header is, taken as a node, the first cell of a pair
 pub flat : (k : Kind) → not (isHeader k) ≡ true → (funKind k ≡ dot) × (behind k ≡ 0)
 unfolding funKind behind isHeader
 flat (Var v) h = (refl, refl)

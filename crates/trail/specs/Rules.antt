@@ -21,6 +21,7 @@ namesBound cells top e = leb 1 e && ltb e top && not (unboundAt cells e)
 unfoldable pub entryNew : List ℕ → ℕ → Bool
 entryNew trail i = allFrom 0 i (λ j. not (eqb (getD trail j 0) (getD trail i 0)))
 
+-- entry i keeps both rules
 abbrev pub entryKeeps : List ℕ → ℕ → List ℕ → ℕ → Bool
 entryKeeps cells top trail i = namesBound cells top (getD trail i 0) && entryNew trail i
 
@@ -37,18 +38,20 @@ trailGood cells top trail trailed = trailUsed cells top trail trailed && zeroFro
 abbrev pub markWidth : ℕ
 markWidth = 2
 
--- of mark number m + 1
+-- the `top` of mark number m + 1
 abbrev pub markTop : List ℕ → ℕ → ℕ
 markTop marks m = getD marks (markWidth * m) 0
 
+-- its trail count
 abbrev pub markTrail : List ℕ → ℕ → ℕ
 markTrail marks m = getD marks (markWidth * m + 1) 0
 
--- of the mark before it; 0 before the first
+-- the `top` of the mark before it; 0 before the first
 unfoldable pub topBefore : List ℕ → ℕ → ℕ
 topBefore marks zero = 0
 topBefore marks (suc m) = markTop marks m
 
+-- the same of the trail count
 unfoldable pub trailBefore : List ℕ → ℕ → ℕ
 trailBefore marks zero = 0
 trailBefore marks (suc m) = markTrail marks m
@@ -57,6 +60,7 @@ trailBefore marks (suc m) = markTrail marks m
 unfoldable pub rises : ℕ → ℕ → ℕ → Bool
 rises before at present = leb before at && leb at present
 
+-- mark number m + 1 keeps its rules
 unfoldable pub markGood : ℕ → ℕ → List ℕ → ℕ → Bool
 markGood top trailed marks m =
     rises (topBefore marks m) (markTop marks m) top && rises (trailBefore marks m) (markTrail marks m) trailed

@@ -20,6 +20,7 @@ pub record State : Type 0 where
   pub marks : List ℕ
   pub marked : ℕ
 
+-- these, put together
 abbrev pub stateOf : List ℕ → ℕ → List ℕ → ℕ → List ℕ → ℕ → State
 stateOf cells top trail trailed marks marked = record { cells = cells; top = top; trail = trail; trailed = trailed; marks = marks; marked = marked }
 
@@ -28,9 +29,11 @@ abbrev pub fresh : ℕ → ℕ → ℕ → State
 fresh c t m = stateOf (replicate c 0) 1 (replicate t 0) 0 (replicate m 0) 0
 
 -- ---- the store check
+-- the rules of the cells
 abbrev pub cellsHold : State → Bool
 cellsHold s = wellFormed (s .cells) (s .top)
 
+-- the rules of the trail and the marks
 abbrev pub trailHolds : State → Bool
 trailHolds s = trailGood (s .cells) (s .top) (s .trail) (s .trailed) && marksGood (s .top) (s .trailed) (s .marks) (s .marked)
 
@@ -60,6 +63,7 @@ pub data Outcome : Type 0 where
   failed : Outcome
   refused : Refusal → Outcome
 
+-- what an answer that tells no number says
 abbrev pub said : Answer → Outcome
 said Done = done 0
 said (Refused r) = refused r

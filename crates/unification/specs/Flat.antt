@@ -1,4 +1,4 @@
--- Where a run binds variables to variables, atoms and numbers alone, no cycle comes of it, so there is nothing to test.
+-- Where a run binds no variable to a Str or a Lis, no cycle comes of it, so there is nothing to test.
 use mathlib.Core.Path.{_≡_, refl, sym, ap, subst, _∙_}
 use mathlib.Core.Bool.{Bool, true, false, false≢true}
 use mathlib.Core.List.{List}
@@ -36,13 +36,13 @@ flatKind (Atom n a) = true
 flatKind (Fixnum z) = true
 flatKind Bad = true
 
--- the cell that an entry of the trail names holds neither
-abbrev pub flatAt : List ℕ → List ℕ → ℕ → Bool
-flatAt cells trail i = flatKind (kindAt cells (getD trail i 0))
+-- the cell that entry i of the trail names holds neither
+abbrev pub entryFlat : List ℕ → List ℕ → ℕ → Bool
+entryFlat cells trail i = flatKind (kindAt cells (getD trail i 0))
 
--- nor does any that the entries from a place to another name
+-- no cell that the trail names, from a place to another, holds either
 unfoldable pub boundFlat : List ℕ → List ℕ → ℕ → ℕ → Bool
-boundFlat cells trail from to = allFrom from (to - from) (flatAt cells trail)
+boundFlat cells trail from to = allFrom from (to - from) (entryFlat cells trail)
 
 -- a variable or a constant is shown
 abbrev Simple : View → Type 0
@@ -96,7 +96,7 @@ module _ (s : State) (wf : WellFormed (s .cells) (s .top)) (a b : ℕ) (live : L
   unfolding flatKind boundFlat
   flat-here i h u =
       ⊎-elim (λ q. ap flatKind (still i h u q))
-      (λ n. subst (λ (j : ℕ). flatKind (kindAt (m .cells) j) ≡ true) (n .3) (let z = n .2 in all-holds (flatAt (m .cells) (m .trail)) (m .trailed - s .trailed) (s .trailed) flat (n .0) (n .1) (omega arith)))
+      (λ n. subst (λ (j : ℕ). flatKind (kindAt (m .cells) j) ≡ true) (n .3) (let z = n .2 in all-holds (entryFlat (m .cells) (m .trail)) (m .trailed - s .trailed) (s .trailed) flat (n .0) (n .1) (omega arith)))
       (after .wrote .same i)
 
   -- the next cell along Vars was unbound too

@@ -24,13 +24,14 @@ module _ (s : List ℕ) (top : ℕ) (wf : WellFormed s top) where
   unfolding kindOf byTag
   zero-bad = refl
 
-  -- a used cell, or one that shows a constant
+  -- a word 0 shows a constant
   unused : (i : ℕ) → getD s i 0 ≡ 0 → lookAt s top i ≡ con (atom 0)
   unfolding lookAt step stepKind viewKind
   unused i e =
       let k : kindAt s i ≡ Bad = ap kindOf e ∙ zero-bad in
       ap (λ (x : ℕ). viewKind s (kindAt s x)) (steps-fixed s top i (ap (stepKind i) k)) ∙ ap (viewKind s) k
 
+  -- a used cell, or one that shows a constant
   pub used-or : (i : ℕ) → ((1 ≤ i) × (i < top)) ⊎ (lookAt s top i ≡ con (atom 0))
   used-or zero = inr (unused 0 (wf .zeroth))
   used-or (suc i) = elim (decLt (suc i) top) [ yes h ↦ inl (omega arith, h) | no h ↦ inr (unused (suc i) (wf .rest (suc i) (omega arith))) ]

@@ -106,7 +106,7 @@ module _ (sh : Shape) (look : ℕ → View) where
               let b : (d : ℕ) → Same sh (Agree sh look d) (nod (h .0)) (nod m) = λ d. rw e at (s d) in
               (m, e, sym (b 0 .0) ∙ h .2, stands-args sh look ts m (λ k l. q k l (sh .arg (h .0) k) (sh .arg m k) (λ d. b d .1 k (omega (arith, ap (λ x. x .1) (h .2)))) (stands-arg sh look ts (h .0) (h .3) k l)))
 
--- ---- a plain run, and the roots' terms at entry
+-- ---- what a yes has come to
 module _ (s : State) (wf : WellFormed (s .cells) (s .top)) (a b : ℕ) (live : Live s (fuel (s .top)) (start s a b)) where
   abbrev sh : Shape
   sh = shapeOf (s .cells)
@@ -127,6 +127,7 @@ module _ (s : State) (wf : WellFormed (s .cells) (s .top)) (a b : ℕ) (live : L
     pub roots-agree : (d : ℕ) → Agree sh (lookAt (m .cells) (s .top)) d a b
     roots-agree = let h = good-end in yes-agrees sh a b (lookAt (m .cells) (s .top)) (m .classes) (rw (h .3) at (h .2))
 
+    -- each cell shows what it showed, or what its variable shows
     pub later-end : Later look₀ (seenOf (s .top) m)
     later-end =
         let h : (f : ℕ) × Live s f m × Later look₀ (seenOf (s .top) m) × (m .pairs ≡ []) =
@@ -139,10 +140,10 @@ module _ (s : State) (wf : WellFormed (s .cells) (s .top)) (a b : ℕ) (live : L
         at i (con d) q = q
         at i (nod n) q = q
 
-    -- what each variable has come to
     abbrev wf′ : WellFormed (m .cells) (s .top)
     wf′ = live-end .1 .store
 
+    -- what each variable has come to
     abbrev now : ℕ → Term
     now = termOf (m .cells) (s .top) wf′
 

@@ -9,11 +9,13 @@ use borrow.Author.Tests.{eq-eqb, ne-eqb}
 use Rattle.terms.specs.View.{View, free, con, nod, Shape, arityOf, lookAt}
 use Rattle.unification.specs.Machine.{Act, skip, bind, join, clash, Machine, merge, args}
 
+-- what each cell shows, the class of each node, and the pairs that stand
 pub record Seen : Type 0 where
   pub look : ℕ → View
   pub classes : ℕ → ℕ
   pub pairs : List (ℕ × ℕ)
 
+-- of a machine
 abbrev pub seenOf : ℕ → Machine → Seen
 seenOf top s = record { look = lookAt (s .cells) top; classes = s .classes; pairs = s .pairs }
 

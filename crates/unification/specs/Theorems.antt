@@ -23,7 +23,7 @@ use Rattle.terms.specs.Finite.{StandsAt, OneTerm}
 use Rattle.unification.specs.Machine.{Machine, Ending, yes, clashes, occurs, late, unified, start, fuel}
 use Rattle.chains.specs.Work.{workNeed, cleared}
 use Rattle.unification.specs.Calls.{plainCheck, checkedCheck, Result, leftBy, answered, plainly, checkedly}
-use Rattle.unification.specs.Trees.{Label, Agree, SolvesAt, AgreeAt}
+use Rattle.unification.specs.Trees.{Label, Solves, Agree, SolvesAt, AgreeAt}
 use Rattle.unification.specs.Substitution.{inst, Unifies}
 use Rattle.unification.specs.Live.{Live, Ends, run-keeps}
 use Rattle.unification.specs.Sound.{Keeps, sound, no-solution}
@@ -152,24 +152,40 @@ module _ (s : State) (work : List ℕ) (a b : ℕ) where
       let y = from-yes s work a b (plainCheck s work a b) (unified false s a b) t w h in
       subst (λ (t : State). AgreeAt (t .cells) (t .top) a b) (sym (y .1 .2)) (agree-now false (y .0) (y .1 .0) (y .1 .1))
 
-  -- its no means that no trees, finite or endless, make them equal: whatever cells P speaks of beside the roots, and whatever the rest of the store holds
-  pub plain-no : (t : State) (w : List ℕ) → plainly s work a b ≡ (failed, t, w) → (D : Type 0) (label : D → Label) (sub : D → ℕ → D) (P : ℕ → Type 0) (σ : ℕ → D) → SolvesAt D label sub P (s .cells) top σ → P a → P b → σ a ≡ σ b → ⊥
-  unfolding plainly unified
-  plain-no t w h D label sub P σ k pa pb q = at (unified false s a b) refl
-    where
-      no : (plainCheck s work a b ≡ Done) × ((m : Machine) → unified false s a b ≡ yes m → ⊥) × (t ≡ s) × (w ≡ cleared (workNeed top) work)
-      no = from-no s work a b (plainCheck s work a b) (unified false s a b) t w h
+  -- of trees for the cells, finite or endless, that make the roots equal: whatever cells P speaks of beside the roots, and whatever the rest of the store holds
+  module _ (D : Type 0) (label : D → Label) (sub : D → ℕ → D) (P : ℕ → Type 0) (σ : ℕ → D) (k : SolvesAt D label sub P (s .cells) top σ) (pa : P a) (pb : P b) (q : σ a ≡ σ b) where
+    ends-kept : plainCheck s work a b ≡ Done → Ends s (Keeps D label sub P (shapeOf (s .cells)) σ) ⊥ ⊥ (unified false s a b)
+    unfolding unified
+    ends-kept c =
+        run-keeps s false (Keeps D label sub P (shapeOf (s .cells)) σ) ⊥ ⊥ (λ r i j u c n _ k. sound D label sub P (shapeOf (s .cells)) σ r i j u c n k) (no-solution D label sub P (shapeOf (s .cells)) σ) (λ z. absurd (false≢true z))
+        (fuel top) (start s a b) (asked-live s work a b (asked s work a b c)) (k, ((pa, pb, q), tt))
 
-      ends : Ends s (Keeps D label sub P (shapeOf (s .cells)) σ) ⊥ ⊥ (unified false s a b)
-      ends =
-          run-keeps s false (Keeps D label sub P (shapeOf (s .cells)) σ) ⊥ ⊥ (λ r i j u c n _ k. sound D label sub P (shapeOf (s .cells)) σ r i j u c n k) (no-solution D label sub P (shapeOf (s .cells)) σ) (λ z. absurd (false≢true z))
-          (fuel top) (start s a b) (asked-live s work a b (asked s work a b (no .0))) (k, ((pa, pb, q), tt))
+    -- its yes binds no more than it must: they are trees for the cells that it leaves too
+    pub plain-general : (t : State) (w : List ℕ) → plainly s work a b ≡ (done 0, t, w) → SolvesAt D label sub P (t .cells) (t .top) σ
+    unfolding plainly
+    plain-general t w h =
+        let y = from-yes s work a b (plainCheck s work a b) (unified false s a b) t w h in
+        let m = y .1 .0 in
+        let e = subst (Ends s (Keeps D label sub P (shapeOf (s .cells)) σ) ⊥ ⊥) (y .1 .1) (ends-kept (y .0)) in
+        subst (λ (t : State). SolvesAt D label sub P (t .cells) (t .top) σ) (sym (y .1 .2))
+        (subst (λ (h : Shape). Solves D label sub P h σ (lookAt (m .cells) top)) (sym (e .1 .shape)) (e .2 .0))
 
-      at : (o : Ending) → unified false s a b ≡ o → ⊥
-      at (yes m) e = no .1 m e
-      at clashes e = subst (Ends s (Keeps D label sub P (shapeOf (s .cells)) σ) ⊥ ⊥) e ends
-      at occurs e = subst (Ends s (Keeps D label sub P (shapeOf (s .cells)) σ) ⊥ ⊥) e ends
-      at late e = subst (Ends s (Keeps D label sub P (shapeOf (s .cells)) σ) ⊥ ⊥) e ends
+    -- its no means that there are none
+    pub plain-no : (t : State) (w : List ℕ) → plainly s work a b ≡ (failed, t, w) → ⊥
+    unfolding plainly
+    plain-no t w h = at (unified false s a b) refl
+      where
+        no : (plainCheck s work a b ≡ Done) × ((m : Machine) → unified false s a b ≡ yes m → ⊥) × (t ≡ s) × (w ≡ cleared (workNeed top) work)
+        no = from-no s work a b (plainCheck s work a b) (unified false s a b) t w h
+
+        ends : (o : Ending) → unified false s a b ≡ o → Ends s (Keeps D label sub P (shapeOf (s .cells)) σ) ⊥ ⊥ o
+        ends o e = subst (Ends s (Keeps D label sub P (shapeOf (s .cells)) σ) ⊥ ⊥) e (ends-kept (no .0))
+
+        at : (o : Ending) → unified false s a b ≡ o → ⊥
+        at (yes m) e = no .1 m e
+        at clashes e = ends clashes e
+        at occurs e = ends occurs e
+        at late e = ends late e
 
   -- ---- checked unification
   module _ (c : plainCheck s work a b ≡ Done) (ca : cyclicAt (s .cells) top a ≡ false) (cb : cyclicAt (s .cells) top b ≡ false) where

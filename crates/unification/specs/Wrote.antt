@@ -21,6 +21,7 @@ use Rattle.trail.specs.Facts.{TrailGood, MarksGood, Holds, bound-used}
 use Rattle.unification.specs.Calls.{freeAt, unbound}
 use Rattle.unification.specs.Sums.{sum-at}
 
+-- what has been written since the state s, which led to these cells, this trail and this count
 pub record Wrote (s : State) (cells trail : List ℕ) (trailed : ℕ) : Type 0 where
   pub cells-size : length cells ≡ length (s .cells)
   pub trail-size : length trail ≡ length (s .trail)

@@ -3,6 +3,7 @@ use Rattle.trail.specs.State.{Outcome, done, failed, refused}
 use Rattle.unifier.specs.declared.Unified.{Unified}
 use Rattle.unifier.specs.declared.Unified.the-variants.{Yes, No, Refused}
 
+-- what the answer says
 abbrev pub saidOf : Unified → Outcome
 saidOf Yes = done 0
 saidOf No = failed

@@ -105,7 +105,7 @@ module _ (checked : Bool) (s : State) (work : List ℕ) (a b : ℕ) (p : Passed 
     abbrev accepts : Bool
     accepts = ok && not (checked && cyclicAt cells (s .top) a)
 
-    -- it did not reach one before, so the test may be left out where no variable was bound to a compound
+    -- it did not reach one before, so the test may be left out where no variable was bound to a Str or a Lis
     pub still-accepts : {v : Bool} → v ≡ (ok && not (checked && not (boundFlat cells trail (s .trailed) trailed) && cyclicAt cells (s .top) a)) → v ≡ accepts
     unfolding unified
     still-accepts e = e ∙ go checked ok (p .acyclic) (l .ended) (boundFlat cells trail (s .trailed) trailed) refl

@@ -147,7 +147,7 @@ fn bound_flat(cells: &[u64], trail: &[u64], from: usize, to: usize) -> bool
 }
 
 // Whether the answer is yes: of a checked call only where the root reaches no cycle after the run.
-// It did not before, so there is nothing to test where no variable was bound to a compound.
+// It did not before, so there is nothing to test where no variable was bound to a Str or a Lis.
 fn accepted(
     cells: &[u64],
     top: usize,

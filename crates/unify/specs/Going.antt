@@ -53,6 +53,7 @@ pub record Held : Type 0 where
   pub pairs : ℕ
   pub trailed : ℕ
 
+-- these, put together
 abbrev pub holds : List ℕ → List ℕ → List ℕ → ℕ → ℕ → Held
 holds cells trail work pairs trailed = record { cells = cells; trail = trail; work = work; pairs = pairs; trailed = trailed }
 

@@ -1,4 +1,4 @@
--- `chains::clear` meets its contract. The loop's invariant: the first `i` words are 0, and the others as they were. Assumes nothing.
+-- `chains::clear` meets its contract. The loop's invariant: the first `i` words are 0, and the others as they were.
 use mathlib.Core.Path.{_≡_, refl, _∙_}
 use Prim.Native.Nat.{_-_, _≤_}
 use mathlib.Core.List.{_++_}

@@ -1,4 +1,4 @@
--- `chains::end_by` meets its contract. The loop's invariant: following from `cur` ends where following from `at` does, and what is remembered is true. The measure is the number of steps left. Assumes nothing.
+-- `chains::end_by` meets its contract. The loop's invariant: following from `cur` ends where following from `at` does, and what is remembered is true. The measure is the number of steps left.
 use Prim.Native.Nat.{_≤_}
 use native.Mathlib.Omega.{arith}
 use lib.ListN.{length, length-set}

@@ -1,4 +1,4 @@
--- `chains::onward` meets its contract: what is remembered is further along, and so is a step. Assumes nothing.
+-- `chains::onward` meets its contract: what is remembered is further along, and so is a step.
 use Rattle.chains.specs.Chains.{goes}
 use Rattle.chains.specs.Hops.{onward-step}
 use borrow.Author.Needs.{needs}

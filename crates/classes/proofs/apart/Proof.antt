@@ -1,4 +1,4 @@
--- `classes::apart` meets its contract. The loop's invariant: the cells below `i` are their own parents. Assumes nothing.
+-- `classes::apart` meets its contract. The loop's invariant: the cells below `i` are their own parents.
 use mathlib.Core.Path.{_≡_, refl, _∙_}
 use Prim.Native.Nat.{ℕ, _<_, _≤_, _-_}
 use native.Mathlib.Omega.{arith}

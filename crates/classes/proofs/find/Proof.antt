@@ -1,4 +1,4 @@
--- `classes::find` meets its contract. The loop's invariant: climbing from `cur` ends where climbing from `i` does, and from each cell where it did. The measure is `cur`. Assumes nothing.
+-- `classes::find` meets its contract. The loop's invariant: climbing from `cur` ends where climbing from `i` does, and from each cell where it did. The measure is `cur`.
 use native.Mathlib.Omega.{arith}
 use borrow.Author.Needs.{needs}
 use mathlib.Core.Path.{refl}

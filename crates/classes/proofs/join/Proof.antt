@@ -1,4 +1,4 @@
--- `classes::join` meets its contract, by which of the two names is the lower. Assumes nothing.
+-- `classes::join` meets its contract, by which of the two names is the lower.
 use native.Mathlib.Omega.{arith}
 use borrow.Author.Needs.{needs}
 use Rattle.classes.specs.Classes.{join-low, join-high}

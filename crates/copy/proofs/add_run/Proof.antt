@@ -1,4 +1,4 @@
--- `copy::add_run` meets its contract, by whether a copy is noted. Assumes nothing.
+-- `copy::add_run` meets its contract, by whether a copy is noted.
 use lib.Seq.{getD-set-same}
 use Rattle.copy.specs.Arms.{run-new, run-old}
 use borrow.Author.Needs.{needs}

@@ -1,4 +1,4 @@
--- `copy::add_structure` meets its contract, by whether a copy is noted. Assumes nothing.
+-- `copy::add_structure` meets its contract, by whether a copy is noted.
 use mathlib.Core.Path.{sym, ap, subst, _∙_}
 use Prim.Native.Nat.{ℕ, _+_}
 use borrow.Author.Needs.{needs}

@@ -1,4 +1,4 @@
--- `copy::copy_cell` meets its contract, by the kind of the cell. Assumes nothing.
+-- `copy::copy_cell` meets its contract, by the kind of the cell.
 use mathlib.Core.Path.{sym, ap, subst, _∙_}
 use Rattle.copy.specs.Rules.{act}
 use Rattle.copy.specs.Asks.{stateOf, Can}

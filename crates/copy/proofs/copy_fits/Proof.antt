@@ -1,4 +1,4 @@
--- `copy::copy_fits` meets its contract: room for the most that a copy can need is room for this one. Assumes nothing.
+-- `copy::copy_fits` meets its contract: room for the most that a copy can need is room for this one.
 use mathlib.Core.Path.{_∙_}
 use borrow.Author.Needs.{needs}
 use Rattle.cycle.specs.Most.{most-enough}

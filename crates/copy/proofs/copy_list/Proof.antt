@@ -1,4 +1,4 @@
--- `copy::copy_list` meets its contract: the pair is added or noted, and the cell names it. Assumes nothing.
+-- `copy::copy_list` meets its contract: the pair is added or noted, and the cell names it.
 use Rattle.copy.specs.Asks.{Can, proper-lis}
 use Rattle.copy.specs.Arms.{act-lis}
 use borrow.Author.Needs.{needs}

@@ -1,4 +1,4 @@
--- `copy::copy_root` meets its contract: the scan of a buffer whose first words are cleared is the whole copy. Assumes nothing.
+-- `copy::copy_root` meets its contract: the scan of a buffer whose first words are cleared is the whole copy.
 use Prim.Native.Nat.{_<_}
 use lib.ListN.{length}
 use Rattle.store.specs.Steps.{term-used}

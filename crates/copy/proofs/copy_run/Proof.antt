@@ -1,4 +1,4 @@
--- `copy::copy_run` meets its contract. The loop's invariant: the words that are left come to the whole run. Assumes nothing.
+-- `copy::copy_run` meets its contract. The loop's invariant: the words that are left come to the whole run.
 use mathlib.Core.Path.{_≡_, refl, sym, ap, _∙_}
 use Prim.Native.Nat.{ℕ, _+_, _-_, _≤_}
 use mathlib.Core.List.{List}

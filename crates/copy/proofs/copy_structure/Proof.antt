@@ -1,4 +1,4 @@
--- `copy::copy_structure` meets its contract: the run is added or noted, and the cell names it. Assumes nothing.
+-- `copy::copy_structure` meets its contract: the run is added or noted, and the cell names it.
 use Rattle.copy.specs.Asks.{Can, proper-str}
 use Rattle.copy.specs.Arms.{act-str}
 use borrow.Author.Needs.{needs}

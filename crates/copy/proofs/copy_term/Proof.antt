@@ -1,4 +1,4 @@
--- `copy::copy_term` meets its contract: the refusals in the definition's order, and then the copy. Assumes nothing.
+-- `copy::copy_term` meets its contract: the refusals in the definition's order, and then the copy.
 use mathlib.Core.Path.{_≡_, sym, _∙_}
 use Prim.Native.Nat.{ℕ, _≤_}
 use mathlib.Core.Bool.{true}

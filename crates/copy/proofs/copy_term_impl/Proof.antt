@@ -1,4 +1,4 @@
--- `copy::copy_term_impl` meets its contract. The loop's invariant: the scan from here comes to the whole scan, and the copy so far keeps its invariant. The measure is what is left of the limit. Assumes nothing.
+-- `copy::copy_term_impl` meets its contract. The loop's invariant: the scan from here comes to the whole scan, and the copy so far keeps its invariant. The measure is what is left of the limit.
 use mathlib.Core.Path.{_≡_, refl, sym, ap, _∙_}
 use Prim.Native.Nat.{ℕ, suc, _+_, _-_, _≤_}
 use lib.ListN.{length}

@@ -1,4 +1,4 @@
--- `copy::copy_var` meets its contract. Assumes nothing.
+-- `copy::copy_var` meets its contract.
 use mathlib.Core.Path.{ap, _∙_}
 use Prim.Native.Nat.{ℕ}
 use borrow.Author.Needs.{needs}

@@ -1,4 +1,4 @@
--- `copy::end_cell` meets its contract, by the kind of the scanned cell. Assumes nothing.
+-- `copy::end_cell` meets its contract, by the kind of the scanned cell.
 use mathlib.Core.Path.{sym, ap, _∙_}
 use Prim.Native.Nat.{ℕ}
 use lib.ListN.{getD}

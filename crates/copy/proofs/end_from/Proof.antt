@@ -1,4 +1,4 @@
--- `copy::end_from` meets its contract: what following left in the part, said of the whole. Assumes nothing.
+-- `copy::end_from` meets its contract: what following left in the part, said of the whole.
 use Rattle.copy.specs.Followed.{mid-asks, followed-part}
 use borrow.Author.Needs.{needs}
 use Rattle.copy.proofs.end_from.Statement.{statement}

@@ -1,4 +1,4 @@
--- `copy::free_cells` meets its contract, by which of the two is less. Assumes nothing.
+-- `copy::free_cells` meets its contract, by which of the two is less.
 use native.Mathlib.Omega.{arith}
 use borrow.Author.Needs.{needs}
 use denote.Ref.{now}

@@ -1,4 +1,4 @@
--- `copy::put_at` meets its contract: a word put into the part is put into the whole. Assumes nothing.
+-- `copy::put_at` meets its contract: a word put into the part is put into the whole.
 use Prim.Native.Nat.{_-_}
 use Rattle.copy.specs.Arms.{put-part}
 use borrow.Author.Needs.{needs}

@@ -1,4 +1,4 @@
--- `copy::reinstantiate_var` meets its contract, by whether a home is noted. Assumes nothing.
+-- `copy::reinstantiate_var` meets its contract, by whether a home is noted.
 use mathlib.Core.Path.{refl, sym}
 use lib.Seq.{getD-set-same}
 use Rattle.copy.specs.Arms.{home-new, home-old}
@@ -28,10 +28,10 @@ same-length : tie.Need-same-length
 same-length c = search needs
 
 returns : tie.Need-returns
-returns c = let a = c .before .before .args in let o = c .before .before .pre in (home-new _ (a .i) (a .p) (c .if1 .taken), sym (getD-set-same (a .work .now) (a .i) (a .p) 0 (o .0)), o .1)
+returns c = let a = c .before .before .args in let o = c .before .before .pre in (home-new _ (a .at) (a .p) (c .if1 .taken), sym (getD-set-same (a .work .now) (a .at) (a .p) 0 (o .0)), o .1)
 
 returns-2 : tie.Need-returns-2
-returns-2 c = let a = c .before .before .before .args in (home-old _ (a .i) (a .p) (c .before .if1 .left), refl, c .before .before .before .pre .2)
+returns-2 c = let a = c .before .before .before .args in (home-old _ (a .at) (a .p) (c .before .if1 .left), refl, c .before .before .before .pre .2)
 
 pub reinstantiate-var-spec : {M : Type 1} → statement M
 reinstantiate-var-spec =

@@ -1,4 +1,4 @@
--- `copy::scan_cell` meets its contract: the cell is followed, and then becomes what the rules say. Assumes nothing.
+-- `copy::scan_cell` meets its contract: the cell is followed, and then becomes what the rules say.
 use Rattle.copy.specs.Asks.{follows}
 use Rattle.copy.specs.Turn.{turn-sound, turn-can, turn-is, turn-kept, turn-ready}
 use borrow.Author.Needs.{needs}

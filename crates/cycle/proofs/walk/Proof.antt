@@ -112,8 +112,8 @@ loop-holds c =
     let p = c .before .before .before .before .before .before .pre in
     started (p .3) _ (p .2) (p .4) (p .0) (p .1) (c .before .links-of .ensures)
 
-slice-read-seen : tie.Need-slice-read-seen Inv-loop μ-loop
-slice-read-seen c = lands (c .before) .1
+slice-read-colour : tie.Need-slice-read-colour Inv-loop μ-loop
+slice-read-colour c = lands (c .before) .1
 
 slice-write-col-2 : tie.Need-slice-write-col-2 Inv-loop μ-loop
 slice-write-col-2 c = lands (c .before .before) .1
@@ -272,7 +272,7 @@ walk-spec =
     links-of-requires
     sub-links
     loop-holds
-    slice-read-seen
+    slice-read-colour
     slice-write-col-2
     links-of-requires-2
     add-nexts-2

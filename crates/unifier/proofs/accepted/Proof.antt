@@ -1,4 +1,4 @@
--- `unifier::accepted` meets its contract: the cycle test is made only after a checked yes that bound a variable to a compound. Assumes nothing.
+-- `unifier::accepted` meets its contract: the cycle test is made only after a checked yes that bound a variable to a Str or a Lis.
 use mathlib.Core.Path.{_≡_, sym, _∙_}
 use mathlib.Core.Bool.{true}
 use borrow.Author.Tests.{not-true, not-false}

@@ -5,12 +5,12 @@ use native.Mathlib.Omega.{arith}
 use borrow.Author.Needs.{needs}
 use borrow.Author.Tests.{not-true, not-false}
 use Rattle.store.specs.All.{allFrom, all-done, all-fails, all-goes}
-use Rattle.unification.specs.Flat.{flatAt, boundFlat}
+use Rattle.unification.specs.Flat.{entryFlat, boundFlat}
 use Rattle.unifier.proofs.bound_flat.Statement.{statement}
 use Rattle.unifier.proofs.bound_flat.Tie as tie
 
 abbrev Inv-loop : tie.InvT-loop
-Inv-loop cells trail from to i₀ i = (from ≤ i) × (boundFlat cells trail from to ≡ allFrom i (to - i) (flatAt cells trail))
+Inv-loop cells trail from to i₀ i = (from ≤ i) × (boundFlat cells trail from to ≡ allFrom i (to - i) (entryFlat cells trail))
 
 abbrev μ-loop : tie.MeasureT-loop
 μ-loop cells trail from to i₀ i = to - i

@@ -1,4 +1,4 @@
--- `unifier::checked_check` meets its contract: refusal 6 after the plain ones. Assumes nothing.
+-- `unifier::checked_check` meets its contract: refusal 6 after the plain ones.
 use mathlib.Core.Path.{_≡_, sym, _∙_}
 use mathlib.Core.Bool.{not}
 use mathlib.Core.List.{List}

@@ -1,4 +1,4 @@
--- `unifier::count_unbound` meets its contract. The loop's invariant: what is counted, with what is left to count, is the whole. Assumes nothing.
+-- `unifier::count_unbound` meets its contract. The loop's invariant: what is counted, with what is left to count, is the whole.
 use mathlib.Core.Path.{_≡_}
 use Prim.Native.Nat.{_+_, _-_, _≤_}
 use native.Mathlib.Omega.{arith}

@@ -2,10 +2,7 @@
 use mathlib.Core.Path.{_≡_, refl, sym, ap, _∙_}
 use mathlib.Core.Bool.{true}
 use mathlib.Core.List.{[], _∷_}
-use mathlib.Core.Logic.{inl, inr}
-use Prim.Native.Nat.{ℕ}
-use native.Mathlib.Omega.{arith}
-use types.Run.{OneOf}
+use types.Run.{OneOf, miss}
 use denote.Enum.Declared.{tagOf}
 use borrow.Author.Needs.{needs}
 use Rattle.cell.proofs.Kind.{the-type}
@@ -16,17 +13,11 @@ use Rattle.unifier.proofs.flat_at.Statement.{statement}
 use Rattle.unifier.proofs.flat_at.Tie as tie
 
 -- the arms that are left are neither of a Str nor of a Lis
-neither : (n : ℕ) → OneOf (0 ∷ 3 ∷ 4 ∷ 5 ∷ []) n → (n ≡ 1 → ⊥) × (n ≡ 2 → ⊥)
-neither n (inl e) = (λ z. omega arith, λ z. omega arith)
-neither n (inr (inl e)) = (λ z. omega arith, λ z. omega arith)
-neither n (inr (inr (inl e))) = (λ z. omega arith, λ z. omega arith)
-neither n (inr (inr (inr e))) = (λ z. omega arith, λ z. omega arith)
-
 others : (k : Kind) → OneOf (0 ∷ 3 ∷ 4 ∷ 5 ∷ []) (tagOf the-type k) → flatKind k ≡ true
 unfolding flatKind
 others (Var v) h = refl
-others (Str v) h = absurd (neither 1 h .0 refl)
-others (Lis v) h = absurd (neither 2 h .1 refl)
+others (Str v) h = absurd (miss (0 ∷ 3 ∷ 4 ∷ 5 ∷ []) 1 tt h)
+others (Lis v) h = absurd (miss (0 ∷ 3 ∷ 4 ∷ 5 ∷ []) 2 tt h)
 others (Atom n a) h = refl
 others (Fixnum z) h = refl
 others Bad h = refl

@@ -1,4 +1,4 @@
--- `unifier::free_at` meets its contract: an unbound Var is the word that names its own cell. Assumes nothing.
+-- `unifier::free_at` meets its contract: an unbound Var is the word that names its own cell.
 use mathlib.Core.Path.{sym, _∙_}
 use native.Mathlib.Omega.{arith}
 use borrow.Author.Tests.{eq-eqb, ne-eqb}

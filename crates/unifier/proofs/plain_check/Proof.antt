@@ -1,4 +1,4 @@
--- `unifier::plain_check` meets its contract: the refusals in the definition's order. Assumes nothing.
+-- `unifier::plain_check` meets its contract: the refusals in the definition's order.
 use mathlib.Core.Path.{_≡_, sym, _∙_}
 use mathlib.Core.Bool.{true}
 use Prim.Native.Nat.{_≤_}

@@ -1,4 +1,4 @@
--- `unifier::settle` meets its contract: the run's ending and the test after it decide whether what the run left stays. Assumes nothing.
+-- `unifier::settle` meets its contract: the run's ending and the test after it decide whether what the run left stays.
 use native.Mathlib.Omega.{arith}
 use Rattle.unifier.specs.Settling.{begins, yes-store, undoable, still-accepts, settled-yes, settled-no}
 use borrow.Author.Needs.{needs}

@@ -1,4 +1,4 @@
--- `unifier::trail_room` meets its contract: the unbound Vars are at most as many as the used cells, so with as many entries none need be counted. Assumes nothing.
+-- `unifier::trail_room` meets its contract: the unbound Vars are at most as many as the used cells, so with as many entries none need be counted.
 use mathlib.Core.Path.{sym}
 use native.Mathlib.Omega.{arith}
 use denote.Ref.{now}

@@ -1,6 +1,6 @@
--- `unifier::unify` meets its contract: the check decides, and past it the run. Assumes nothing.
+-- `unifier::unify` meets its contract: the check decides, and past it the run.
 use mathlib.Core.Path.{_≡_, sym, _∙_}
-use mathlib.Core.Bool.{true, false, false≢true}
+use mathlib.Core.Bool.{false, false≢true}
 use mathlib.Core.List.{List}
 use Prim.Native.Nat.{ℕ}
 use denote.Ref.{now}

@@ -1,4 +1,4 @@
--- `unifier::unify_with_occurs_check` meets its contract: the check decides, and past it the run. Assumes nothing.
+-- `unifier::unify_with_occurs_check` meets its contract: the check decides, and past it the run.
 use mathlib.Core.Path.{_≡_, sym, _∙_}
 use mathlib.Core.Bool.{true}
 use mathlib.Core.List.{List}

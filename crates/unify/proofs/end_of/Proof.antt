@@ -1,4 +1,4 @@
--- `unify::end_of` meets its contract: following ends at the cell, or where following the next one ends. Assumes nothing.
+-- `unify::end_of` meets its contract: following ends at the cell, or where following the next one ends.
 use native.Mathlib.Omega.{arith}
 use borrow.Author.Needs.{needs}
 use Rattle.chains.specs.Hops.{chained}

@@ -1,4 +1,4 @@
--- `unify::forget` meets its contract. The loop's invariant: the shortcuts below place `i` are 0. Assumes nothing.
+-- `unify::forget` meets its contract. The loop's invariant: the shortcuts below place `i` are 0.
 use Prim.Native.Nat.{_-_}
 use native.Mathlib.Omega.{arith}
 use borrow.Author.Needs.{needs}

@@ -1,4 +1,4 @@
--- `unify::get_name_and_arity` meets its contract: a Str names an Atom cell, so the other arm is never taken. Assumes nothing.
+-- `unify::get_name_and_arity` meets its contract: a Str names an Atom cell, so the other arm is never taken.
 use mathlib.Core.Path.{sym, _∙_}
 use borrow.Author.Needs.{needs}
 use Rattle.unify.specs.Arms.{no-atom}

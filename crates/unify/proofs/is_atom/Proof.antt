@@ -1,4 +1,4 @@
--- `unify::is_atom` meets its contract, by the test of the name. Assumes nothing.
+-- `unify::is_atom` meets its contract, by the test of the name.
 use borrow.Author.Needs.{needs}
 use Rattle.unify.specs.Arms.{atom-named, atom-other}
 use Rattle.unify.proofs.is_atom.Statement.{statement}

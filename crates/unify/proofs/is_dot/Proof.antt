@@ -1,4 +1,4 @@
--- `unify::is_dot` meets its contract, by the test of the name. Assumes nothing.
+-- `unify::is_dot` meets its contract, by the test of the name.
 use borrow.Author.Needs.{needs}
 use Rattle.unify.specs.Arms.{dot-named, dot-other}
 use Rattle.unify.proofs.is_dot.Statement.{statement}

@@ -1,4 +1,4 @@
--- `unify::join` meets its contract, by whether the two names found are one. Assumes nothing.
+-- `unify::join` meets its contract, by whether the two names found are one.
 use mathlib.Core.Path.{_≡_, _∙_}
 use Prim.Native.Nat.{_+_, _≤_}
 use native.Mathlib.Omega.{arith}

@@ -1,4 +1,4 @@
--- `unify::next_act` meets its contract: the pair is read, its cells are followed, and the rules are asked. Assumes nothing.
+-- `unify::next_act` meets its contract: the pair is read, its cells are followed, and the rules are asked.
 use mathlib.Core.Path.{_≡_, ap}
 use Prim.Native.Nat.{ℕ, _+_, _<_}
 use native.Mathlib.Omega.{arith}

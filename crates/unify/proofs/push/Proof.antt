@@ -1,4 +1,4 @@
--- `unify::push` meets its contract: two words are written, and the pair is read back from them. Assumes nothing.
+-- `unify::push` meets its contract: two words are written, and the pair is read back from them.
 use native.Mathlib.Omega.{arith}
 use lib.ListN.{length-set}
 use borrow.Author.Needs.{needs}

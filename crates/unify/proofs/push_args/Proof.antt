@@ -1,4 +1,4 @@
--- `unify::push_args` meets its contract. The loop's invariant: the last `j` pairs of arguments stand. Assumes nothing.
+-- `unify::push_args` meets its contract. The loop's invariant: the last `j` pairs of arguments stand.
 use mathlib.Core.Path.{_≡_, refl}
 use Prim.Native.Nat.{_≤_, _-_}
 use native.Mathlib.Omega.{arith}

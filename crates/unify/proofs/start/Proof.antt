@@ -1,4 +1,4 @@
--- `unify::start` meets its contract: three writes to three parts of the work buffer. Assumes nothing.
+-- `unify::start` meets its contract: three writes to three parts of the work buffer.
 use borrow.Author.Needs.{needs}
 use Rattle.unify.specs.Whole.{start-is}
 use Rattle.unify.proofs.start.Statement.{statement}

@@ -1,4 +1,4 @@
--- `unify::unify_atom` meets its contract, by the kind of the other cell. Assumes nothing.
+-- `unify::unify_atom` meets its contract, by the kind of the other cell.
 use mathlib.Core.Path.{sym, _∙_}
 use borrow.Author.Needs.{needs}
 use Rattle.unify.specs.Arms.{right-atom, atom-var, atoms-same, atoms-apart, atom-str, atom-not-str, atom-else}

@@ -1,4 +1,4 @@
--- `unify::unify_cells` meets its contract, by the kind of the first cell. Assumes nothing.
+-- `unify::unify_cells` meets its contract, by the kind of the first cell.
 use mathlib.Core.Path.{_≡_, sym, ap, _∙_}
 use mir.Syntax.{w64}
 use mir.Val.{ofZ, toZ}

@@ -1,4 +1,4 @@
--- `unify::unify_fixnum` meets its contract, by the kind of the other cell. Assumes nothing.
+-- `unify::unify_fixnum` meets its contract, by the kind of the other cell.
 use mathlib.Core.Path.{sym, ap, _∙_}
 use mir.Val.{ofZ, toZ}
 use mir.Syntax.{w64}

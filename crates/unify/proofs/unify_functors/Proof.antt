@@ -1,4 +1,4 @@
--- `unify::unify_functors` meets its contract, by the tests of the two functors. Assumes nothing.
+-- `unify::unify_functors` meets its contract, by the tests of the two functors.
 use borrow.Author.Needs.{needs}
 use Rattle.unify.specs.Arms.{functors-same, functors-apart, functors-atom, functors-join}
 use Rattle.unify.proofs.unify_functors.Statement.{statement}

@@ -1,4 +1,4 @@
--- `unify::unify_internal` meets its contract. The loop's invariant: what the code holds is a machine whose run from here is the whole run. The measure is what is left to take: the pairs that stand and those that joins may still push. Assumes nothing.
+-- `unify::unify_internal` meets its contract. The loop's invariant: what the code holds is a machine whose run from here is the whole run. The measure is what is left to take: the pairs that stand and those that joins may still push.
 use mathlib.Core.Path.{refl, _∙_}
 use native.Mathlib.Omega.{arith}
 use borrow.Author.Tests.{not-true, not-false}

@@ -1,4 +1,4 @@
--- `unify::unify_pair` meets its contract, by what the pair asks for. Assumes nothing.
+-- `unify::unify_pair` meets its contract, by what the pair asks for.
 use native.Mathlib.Omega.{arith}
 use borrow.Author.Needs.{needs}
 use Rattle.unify.specs.Going.{ready-looks, went-skip, went-clash, bind-asks, went-bind, join-asks, went-join}

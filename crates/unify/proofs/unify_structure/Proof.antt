@@ -1,4 +1,4 @@
--- `unify::unify_structure` meets its contract, by the kind of the other cell. Assumes nothing.
+-- `unify::unify_structure` meets its contract, by the kind of the other cell.
 use mathlib.Core.Path.{sym, subst, _∙_}
 use native.Mathlib.Omega.{arith}
 use borrow.Author.Tests.{not-true, not-false}

@@ -1,4 +1,4 @@
--- `unify::unify_var` meets its contract, by the kind of the other cell. Assumes nothing.
+-- `unify::unify_var` meets its contract, by the kind of the other cell.
 use native.Mathlib.Omega.{arith}
 use borrow.Author.Needs.{needs}
 use Rattle.unify.specs.Arms.{vars-same, vars-low, vars-high, var-other}
