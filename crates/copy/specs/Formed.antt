@@ -1,20 +1,19 @@
 -- The store with the copy is well formed.
 use mathlib.Core.Path.{_≡_, refl, sym, ap, subst, _∙_}
-use mathlib.Core.Bool.{Bool, true, false, not, false≢true, _&&_, and-eq-true-iff}
+use mathlib.Core.Bool.{Bool, true, false, not, false≢true, and-eq-true-iff}
 use mathlib.Core.List.{List}
 use mathlib.Core.Logic.{inl, inr}
 use Prim.Native.Nat.{ℕ, zero, suc, _+_, _-_, _<_, _≤_}
 use native.Mathlib.Omega.{arith}
 use native.Mathlib.Decide.{decLt}
 use lib.ListN.{getD}
-use lib.Dec.{leb, ltb}
 use borrow.Author.Tests.{lt-ltb, le-leb}
 use Rattle.cell.specs.declared.Kind.{Kind}
 use Rattle.cell.specs.declared.Kind.the-variants.{Var, Str, Lis, Atom, Fixnum, Bad}
 use Rattle.cell.specs.Kinds.{kindOf}
 use Rattle.store.specs.All.{all-true}
 use Rattle.store.specs.Store.{kindAt, isHeader, isAtom, noHeader, termAt, atomAt, runAt, keeps, keepsAt, step, stepKind, steps, Ends, WellFormed}
-use Rattle.store.specs.Steps.{step-used}
+use Rattle.store.specs.Steps.{step-used, term-plain}
 use Rattle.store.specs.WellFormed.{keeps-cells}
 use Rattle.store.specs.Over.{old-keep, old-ends}
 use Rattle.cycle.specs.Kids.{arityKind, arityAt, no-arguments, run-term, lis-terms, atom-arity}
@@ -36,11 +35,6 @@ module _ (t : List ℕ) (end : ℕ) where
   run-made : (f a : ℕ) → f + a < end → ((i : ℕ) → f + 1 ≤ i → i < f + 1 + a → noHeader t i ≡ true) → runAt t end f a ≡ true
   unfolding runAt
   run-made f a h n = rw (lt-ltb (f + a) end h) (all-true (noHeader t) a (f + 1) n)
-
--- a cell that stands for a term is no header
-pub term-plain : (s : List ℕ) (top v : ℕ) → termAt s top v ≡ true → noHeader s v ≡ true
-unfolding termAt
-term-plain s top v h = and-eq-true-iff (leb 1 v && ltb v top) (noHeader s v) .0 h .1
 
 module _ {s : List ℕ} {top root : ℕ} (gv : Given s top root) {cells tables : List ℕ} {end : ℕ} (I : Inv s top root cells tables end end) where
   -- no step along Vars comes to a header

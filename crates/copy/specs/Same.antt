@@ -1,18 +1,17 @@
 -- A copied cell shows what its original shows, cell for cell, and every cell that is reached has a copy.
 use mathlib.Core.Path.{_≡_, refl, sym, ap, subst, _∙_}
-use mathlib.Core.Bool.{true, _&&_, and-eq-true-iff, false≢true}
+use mathlib.Core.Bool.{true, false≢true}
 use mathlib.Core.List.{List}
 use mathlib.Core.Logic.{inl, inr, ⊎-elim}
 use Prim.Native.Nat.{ℕ, zero, suc, _+_, _<_, _≤_}
 use native.Mathlib.Omega.{arith}
 use lib.ListN.{getD}
-use lib.Dec.{leb, ltb}
 use Rattle.cell.specs.declared.Kind.{Kind}
 use Rattle.cell.specs.declared.Kind.the-variants.{Var, Str, Lis, Atom, Fixnum, Bad}
 use Rattle.cell.specs.Kinds.{kindOf, wordOfKind, Proper}
 use Rattle.cell.specs.RoundTrips.{kind-back}
-use Rattle.store.specs.Store.{limit, kindAt, isAtom, noHeader, termAt, step, stepKind, steps, endOf}
-use Rattle.store.specs.Steps.{term-used, steps-fixed}
+use Rattle.store.specs.Store.{limit, kindAt, isAtom, termAt, step, stepKind, steps, endOf}
+use Rattle.store.specs.Steps.{term-used, steps-fixed, term-plain}
 use Rattle.cycle.specs.Graph.{Edge, bound, arg, first, second, Reach, here, over}
 use Rattle.cycle.specs.Kids.{arityAt, no-arguments, atom-arity, lis-terms}
 use Rattle.cycle.specs.Room.{strReached, lisReached, roomOf}
@@ -241,7 +240,7 @@ module _ {s : List ℕ} {top root : ℕ} (gv : Given s top root) {cells tables :
       let o = one-run f _ _ l _ _ (str-run f (n .0) (n .1)) (lis-run l (k .0) (k .1)) (omega arith) (omega arith) e in
       let u = term-used s top root (gv .term) in
       let v = reach-used s top (gv .wf) (u .0) (u .1) r in
-      let z = no-arguments (kindAt s l) (and-eq-true-iff (leb 1 l && ltb l top) (noHeader s l) .0 (lis-terms s top (gv .wf) x (v .0) (v .1) l q .0) .1) in
+      let z = no-arguments (kindAt s l) (term-plain s top l (lis-terms s top (gv .wf) x (v .0) (v .1) l q .0)) in
       let y : arityAt s f ≡ arityAt s l = ap (arityAt s) (o .0) in
       omega arith
 

@@ -1,16 +1,16 @@
 -- The edges as a walk takes them: a Str leads to its functor cell, and this to each argument, so that a header's arguments are passed once however many Str cells name it. The links find the same cycles as the edges and reach the same cells, and functor cells besides.
 use mathlib.Core.Path.{_≡_, refl, sym, ap, _∙_}
-use mathlib.Core.Bool.{Bool, true, false, cond, _&&_, and-eq-true-iff}
+use mathlib.Core.Bool.{Bool, true, false, cond}
 use mathlib.Core.List.{List}
 use mathlib.Core.Logic.{_⊎_, inl, inr, ⊎-elim}
 use Prim.Native.Nat.{ℕ, _+_, _<_, _≤_}
 use native.Mathlib.Omega.{arith}
-use lib.Dec.{eqb, leb, ltb}
+use lib.Dec.{eqb}
 use borrow.Author.Tests.{eq-eqb, ne-eqb}
 use Rattle.cell.specs.declared.Kind.{Kind}
 use Rattle.cell.specs.declared.Kind.the-variants.{Var, Str, Lis, Atom, Fixnum, Bad}
-use Rattle.store.specs.Store.{kindAt, noHeader, termAt, keeps, WellFormed}
-use Rattle.store.specs.Steps.{term-used}
+use Rattle.store.specs.Store.{kindAt, termAt, keeps, WellFormed}
+use Rattle.store.specs.Steps.{term-used, term-plain}
 use Rattle.cycle.specs.Graph.{Edge, bound, arg, first, second, Reaches, here, over, Reach, Accessible, acc, Acc, join, one, spread, acc-ind}
 use Rattle.cycle.specs.Kids.{arityKind, arityAt, no-arguments, pair-edge, edge-kid, kid-term, run-used, str-used, str-atom, lis-terms, atom-arity}
 
@@ -199,7 +199,7 @@ module _ (s : List ℕ) (top : ℕ) (wf : WellFormed s top) where
       go (Str f) e d z = inr (e ∙ ap Str (sym z))
       go (Lis m) e d z = inl (rw z (pair-edge s i m k e d))
       go (Atom n a) e d z =
-          let b = and-eq-true-iff (leb 1 i && ltb i top) (noHeader s i) .0 t .1 in
+          let b = term-plain s top i t in
           let y : a ≡ 0 = sym (ap arityKind e) ∙ no-arguments (kindAt s i) b in
           absurd (omega arith)
       go (Fixnum y) e d z = absurd (omega arith)

@@ -16,7 +16,7 @@ use Rattle.cell.specs.Kinds.{kindOf, wordOfKind, Proper}
 use Rattle.cell.specs.RoundTrips.{kind-back}
 use Rattle.store.specs.All.{allFrom, all-holds, all-true, all-same}
 use Rattle.store.specs.Store.{limit, kindAt, isHeader, isAtom, noHeader, termAt, atomAt, runAt, keeps, keepsAt, step, stepKind, steps, Ends, endOf, endsAt, cellsKeep, cellsEnd, wellFormed, WellFormed}
-use Rattle.store.specs.Steps.{step-used, term-used}
+use Rattle.store.specs.Steps.{step-used, term-used, term-plain}
 use Rattle.store.specs.Zeros.{zeros-back}
 use Rattle.store.specs.Ends.{ends-in}
 use Rattle.store.specs.WellFormed.{parts, along, the-rest, no-low}
@@ -77,7 +77,7 @@ module _ (s u freed : List ℕ) (top t : ℕ) (wf : WellFormed s top) (within : 
   term-left : (v : ℕ) → termAt s top v ≡ true → termAt u t v ≡ ltb v t
   unfolding termAt
   term-left v h =
-      let n = and-eq-true-iff (leb 1 v && ltb v top) (noHeader s v) .0 h .1 in
+      let n = term-plain s top v h in
       let p = term-used s top v h in
       elim (decLt v t) [
         | yes l ↦ rw (le-leb 1 v (p .0), lt-ltb v t l, heads v l n)

@@ -35,6 +35,11 @@ module _ (s : List ℕ) where
       let b = and-eq-true-iff (leb 1 v) (ltb v top) .0 a in
       (leb-true 1 v (b .0), ltb-true v top (b .1))
 
+  -- and no header
+  pub term-plain : (top v : ℕ) → termAt s top v ≡ true → noHeader s v ≡ true
+  unfolding termAt
+  term-plain top v h = and-eq-true-iff (leb 1 v && ltb v top) (noHeader s v) .0 h .1
+
   -- a used cell from 1 goes to a used cell from 1
   keeps-used : (top i : ℕ) → 1 ≤ i → i < top → (k : Kind) → keeps s top i k ≡ true → (1 ≤ stepKind i k) × (stepKind i k < top)
   unfolding keeps stepKind

@@ -1,16 +1,15 @@
 -- What a used cell of a well-formed store shows, in four cases, each with the edges that the cell has.
 use mathlib.Core.Path.{_≡_, refl, sym, ap, _∙_}
-use mathlib.Core.Bool.{true, not, _&&_, false≢true, and-eq-true-iff}
+use mathlib.Core.Bool.{true, not, false≢true}
 use mathlib.Core.List.{List}
 use Prim.Native.Nat.{ℕ, zero, suc, _+_, _<_, _≤_}
 use native.Mathlib.Omega.{arith}
 use native.Mathlib.Decide.{ℕ-discrete}
-use lib.Dec.{leb, ltb}
 use borrow.Author.Tests.{eq-eqb, ne-eqb, lt-ltb}
 use Rattle.cell.specs.declared.Kind.{Kind}
 use Rattle.cell.specs.declared.Kind.the-variants.{Var, Str, Lis, Atom, Fixnum, Bad}
-use Rattle.store.specs.Store.{kindAt, isHeader, noHeader, termAt, keeps, step, stepKind, WellFormed}
-use Rattle.store.specs.Steps.{steps-fixed}
+use Rattle.store.specs.Store.{kindAt, isHeader, termAt, keeps, step, stepKind, WellFormed}
+use Rattle.store.specs.Steps.{steps-fixed, term-plain}
 use Rattle.store.specs.Ends.{end-next}
 use Rattle.store.specs.WellFormed.{end-stays}
 use Rattle.cycle.specs.Kids.{arityAt, degKind, deg, kidKind, kid, str-atom, lis-terms}
@@ -90,7 +89,7 @@ module _ (s : List ℕ) (top : ℕ) (wf : WellFormed s top) (i : ℕ) (l : 1 ≤
   unfolding step stepKind viewKind deg degKind kid kidKind termAt
   of-lis m e =
       let t = lis-terms s top wf i l h m e .0 in
-      let p = flat (kindAt s m) (and-eq-true-iff (leb 1 m && ltb m top) (noHeader s m) .0 t .1) in
+      let p = flat (kindAt s m) (term-plain s top m t) in
       node m (look-here (ap (stepKind i) e) ∙ ap (viewKind s) e) (ap (degKind s i) e ∙ sym (ap (λ x. x .1) (p .0)))
       (λ k. ap (kidKind k) e ∙ sym (ap (λ (b : ℕ). m + b + k) (p .1) ∙ ap (λ (x : ℕ). x + k) same))
     where

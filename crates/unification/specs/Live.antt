@@ -1,15 +1,14 @@
 -- What holds of a running machine, that each turn keeps it, and that what an act keeps a whole run keeps. So a run ends before its fuel is spent.
 use mathlib.Core.Path.{_≡_, refl, sym, ap, subst, _∙_}
-use mathlib.Core.Bool.{Bool, true, false, _&&_, and-eq-true-iff, false≢true}
+use mathlib.Core.Bool.{Bool, true, false, false≢true}
 use mathlib.Core.List.{List, [], _∷_}
 use mathlib.Core.Logic.{_⊎_, inl, inr}
 use Prim.Native.Nat.{ℕ, zero, suc, _+_, _<_, _≤_}
 use native.Mathlib.Omega.{arith}
-use lib.Dec.{leb, ltb}
 use lib.ListN.{length, getD}
 use borrow.Author.Tests.{eq-eqb, ne-eqb}
-use Rattle.store.specs.Store.{noHeader, termAt, step, endOf, WellFormed}
-use Rattle.store.specs.Steps.{term-used}
+use Rattle.store.specs.Store.{termAt, step, endOf, WellFormed}
+use Rattle.store.specs.Steps.{term-used, term-plain}
 use Rattle.store.specs.WellFormed.{end-stays, steps-in}
 use Rattle.trail.specs.State.{State}
 use Rattle.terms.specs.View.{View, free, con, nod, Shape, arityOf, lookAt, shapeOf}
@@ -42,10 +41,6 @@ applied sh m a b (bind v x) = written m v (other a b v)
 applied sh m a b (join n k) = joined sh m n k
 applied sh m a b clash = m
 
-no-header : (cells : List ℕ) (top i : ℕ) → termAt cells top i ≡ true → noHeader cells i ≡ true
-unfolding termAt
-no-header cells top i t = and-eq-true-iff (leb 1 i && ltb i top) (noHeader cells i) .0 t .1
-
 bindable : (cells : List ℕ) (top : ℕ) → WellFormed cells top → (i j v : ℕ) (x : View) → termAt cells top i ≡ true → termAt cells top j ≡ true → lookAt cells top i ≡ free v → lookAt cells top j ≡ x → (x ≡ free v → ⊥) → Bindable cells top v (endOf cells top j) x × (endOf cells top i ≡ v)
 bindable cells top wf i j v x ti tj ei ej n =
     let ui = term-used cells top i ti in
@@ -62,7 +57,7 @@ bindable cells top wf i j v x ti tj ei ej n =
         high-e = b .1;
         free-v = f .1;
         stays = end-stays cells top wf j (uj .0) (uj .1);
-        plain = no-header cells top (endOf cells top j) (end-term cells top wf j tj);
+        plain = term-plain cells top (endOf cells top j) (end-term cells top wf j tj);
         apart = λ z. n (sym sh ∙ ap (lookAt cells top) z ∙ var-look cells top wf v (f .1));
         shows = sh;
       },

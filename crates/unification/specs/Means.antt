@@ -1,14 +1,13 @@
 -- The term that each kind of cell stands for: a Lis means '.'/2, as a Str of it does, and a Str of arity 0 its atom.
 use mathlib.Core.Path.{_≡_, refl, sym, ap, subst, _∙_}
-use mathlib.Core.Bool.{_&&_, and-eq-true-iff}
 use mathlib.Core.List.{List}
 use Prim.Native.Nat.{ℕ, zero, suc, _+_, _<_, _≤_}
 use native.Mathlib.Omega.{arith}
-use lib.Dec.{leb, ltb}
 use lib.IntN.{ℤ}
 use Rattle.cell.specs.declared.Kind.{Kind}
 use Rattle.cell.specs.declared.Kind.the-variants.{Var, Str, Lis, Atom, Fixnum}
-use Rattle.store.specs.Store.{kindAt, noHeader, termAt, step, stepKind, WellFormed}
+use Rattle.store.specs.Store.{kindAt, termAt, step, stepKind, WellFormed}
+use Rattle.store.specs.Steps.{term-plain}
 use Rattle.cycle.specs.Kids.{lis-terms}
 use Rattle.terms.specs.View.{atom, number, strView, viewKind, lookAt, funKind, behind, shapeOf}
 use Rattle.terms.specs.Term.{Term, variable, constant, compound, Terms, one, more, many, nth}
@@ -56,7 +55,7 @@ module _ (s : List ℕ) (top : ℕ) (wf : WellFormed s top) (i : ℕ) (l : 1 ≤
   unfolding step stepKind viewKind termAt
   lis-means p t u e ht hu =
       let d = lis-terms s top wf i l h p e .0 in
-      let f = flat (kindAt s p) (and-eq-true-iff (leb 1 p && ltb p top) (noHeader s p) .0 d .1) in
+      let f = flat (kindAt s p) (term-plain s top p d) in
       let b = f .1 in
       let z : p ≡ shapeOf s .arg p 0 = omega arith in
       let y : p + 1 ≡ shapeOf s .arg p 1 = omega arith in

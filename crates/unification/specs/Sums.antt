@@ -3,16 +3,11 @@ use mathlib.Core.Path.{_≡_, sym, ap}
 use Prim.Native.Nat.{ℕ, zero, suc, _+_, _<_, _≤_}
 use native.Mathlib.Omega.{arith}
 use native.Mathlib.Decide.{ℕ-discrete}
-use Rattle.cycle.specs.Sum.{sumFrom, sum-same}
+use Rattle.cycle.specs.Sum.{sumFrom, sum-one}
 
+-- one place that is 0 in g
 pub sum-drop : (f g : ℕ → ℕ) (q n from : ℕ) → from ≤ q → q < from + n → g q ≡ 0 → ((k : ℕ) → (k ≡ q → ⊥) → g k ≡ f k) → sumFrom from n f ≡ sumFrom from n g + f q
-unfolding sumFrom
-sum-drop f g q zero from l h z e = absurd (omega arith)
-sum-drop f g q (suc n) from l h z e =
-    elim (ℕ-discrete from q) [
-      | yes p ↦ omega (arith, ap f p, ap g p, sum-same f g n (suc from) (λ k a b. sym (e k (λ w. absurd (omega arith)))))
-      | no p ↦ omega (arith, e from p, sum-drop f g q n (suc from) (omega arith) (omega arith) z e)
-    ]
+sum-drop f g q n from l h z e = sum-one g f n from q (f q) l h (omega arith) (λ k _ _ w. sym (e k w))
 
 -- one place of a sum
 pub sum-at : (f : ℕ → ℕ) (q n from : ℕ) → from ≤ q → q < from + n → f q ≤ sumFrom from n f

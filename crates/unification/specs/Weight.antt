@@ -1,16 +1,17 @@
 -- How many pairs can ever stand: the pairs, and the arities of the nodes that name a class, keep one sum, which falls by one with each pair taken and starts at 3 x `top` + 1 at most.
 use mathlib.Core.Path.{_≡_, refl, sym, ap, _∙_}
-use mathlib.Core.Bool.{Bool, true, false, cond, _&&_, and-eq-true-iff}
+use mathlib.Core.Bool.{Bool, true, false, cond}
 use mathlib.Core.List.{List, [], _∷_}
 use Prim.Native.Nat.{ℕ, zero, suc, _+_, _*_, _<_, _≤_}
 use native.Mathlib.Omega.{arith}
-use lib.Dec.{eqb, leb, ltb}
+use lib.Dec.{eqb}
 use lib.ListN.{length, length-append}
 use borrow.Author.Tests.{eqb-true, eq-eqb, ne-eqb}
 use Rattle.cell.specs.declared.Kind.{Kind}
 use Rattle.cell.specs.declared.Kind.the-variants.{Var, Str, Lis, Atom, Fixnum, Bad}
 use Rattle.cell.specs.Kinds.{kindOf, byTag}
-use Rattle.store.specs.Store.{kindAt, noHeader, termAt, WellFormed}
+use Rattle.store.specs.Store.{kindAt, termAt, WellFormed}
+use Rattle.store.specs.Steps.{term-plain}
 use Rattle.cycle.specs.Sum.{sumFrom, sum-same}
 use Rattle.cycle.specs.Kids.{arityKind, arityAt, no-arguments, run-used, run-term}
 use Rattle.terms.specs.View.{nod, Shape, arityOf, funKind, lookAt, shapeOf}
@@ -146,7 +147,7 @@ module _ (s : List ℕ) (top : ℕ) (wf : WellFormed s top) where
 
   bare-term : (i : ℕ) → termAt s top i ≡ true → arityAt s i ≡ 0
   unfolding arityAt termAt
-  bare-term i t = no-arguments (kindAt s i) (and-eq-true-iff (leb 1 i && ltb i top) (noHeader s i) .0 t .1)
+  bare-term i t = no-arguments (kindAt s i) (term-plain s top i t)
 
   -- the cells behind a used cell are used, and are no headers
   behind-used : (f : ℕ) → f < top → f + arityAt s f < top

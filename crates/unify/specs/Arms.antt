@@ -13,7 +13,8 @@ use denote.Enum.Declared.{tagOf}
 use Rattle.cell.proofs.Kind.{the-type}
 use Rattle.cell.specs.declared.Kind.{Kind}
 use Rattle.cell.specs.declared.Kind.the-variants.{Var, Str, Lis, Atom, Fixnum, Bad}
-use Rattle.store.specs.Store.{kindAt, noHeader, termAt, atomAt, isAtom, keeps, step, stepKind}
+use Rattle.store.specs.Store.{kindAt, termAt, atomAt, isAtom, keeps, step, stepKind}
+use Rattle.store.specs.Steps.{term-plain}
 use Rattle.cycle.specs.Kids.{arityAt, str-atom, lis-terms}
 use Rattle.terms.specs.View.{Constant, atom, number, View, free, con, nod, Shape, strView, viewKind, dot, funKind, behind, shapeOf}
 use Rattle.terms.specs.Shows.{flat}
@@ -170,7 +171,7 @@ module _ {cells : List ℕ} {a : ℕ} {j : Kind} {b : ℕ} {k : Kind} (t : Two c
   right-pair {l} e =
       let r = t .right in
       let at = lis-terms cells (t .top) (t .store) b (r .low) (r .high) l (sym (r .is) ∙ e) .0 in
-      let p = flat (kindAt cells l) (both (leb 1 l && ltb l (t .top)) (noHeader cells l) at .1) in
+      let p = flat (kindAt cells l) (term-plain cells (t .top) l at) in
       (ap (viewKind cells) e, p .0, p .1)
 
   -- an unbound Var names itself
