@@ -1,4 +1,4 @@
-//! Document 01's work rules for unification, copying and the cycle verdict, as short as they can
+//! The rules of unification, copying and the cycle verdict, as short as they can
 //! be written. Slow on purpose: every question about reach is asked of the whole store again.
 
 use crate::case::{Answer, Call, Case, Engine, Outcome};

@@ -1,4 +1,4 @@
-//! Document 01's bench heaps (P1 to P10) on the model, word for word, and on the originals where
+//! The bench heaps (P1 to P10) on the model, word for word, and on the originals where
 //! they have the call.
 
 use oracle::case::{Answer, Case, Engine, Outcome};
