@@ -10,7 +10,7 @@ use Rattle.cell.specs.declared.Kind.{Kind}
 use Rattle.cell.specs.declared.Kind.the-variants.{Var, Str, Lis, Atom, Fixnum, Bad}
 use Rattle.cell.specs.Kinds.{kindOf, wordOfKind, Proper}
 use Rattle.cell.specs.RoundTrips.{kind-back}
-use Rattle.store.specs.Store.{limit, kindAt, isAtom, termAt, step, stepKind, steps, endOf}
+use Rattle.store.specs.Store.{limit, kindAt, isAtom, step, stepKind, steps, endOf}
 use Rattle.store.specs.Steps.{term-used, steps-fixed, term-plain}
 use Rattle.cycle.specs.Graph.{Edge, bound, arg, first, second, Reach, here, over}
 use Rattle.cycle.specs.Kids.{arityAt, no-arguments, atom-arity, lis-terms}
@@ -233,7 +233,7 @@ module _ {s : List ℕ} {top root : ℕ} (gv : Given s top root) {cells tables :
 
   -- a pair begins at no header, so it is no structure of one argument
   pub mixed-apart : (f l : ℕ) → StrReached s root f → LisReached s root l → at .structures f ≡ at .pairs l → ⊥
-  unfolding arityAt termAt
+  unfolding arityAt
   mixed-apart f l a (x, r, q) e =
       let n = str-noted f a in
       let k = lis-noted l (x, r, q) in

@@ -191,7 +191,7 @@ module _ (s : List ℕ) (top : ℕ) (wf : WellFormed s top) where
 
   -- a link is an edge, or goes from a Str to its functor cell
   link-cases : (i j : ℕ) → termAt s top i ≡ true → Link s i j → Edge s i j ⊎ (kindAt s i ≡ Str j)
-  unfolding links linksKind link linkKind termAt arityKind
+  unfolding links linksKind link linkKind arityKind
   link-cases i j t (k, d, z) = go (kindAt s i) refl d z
     where
       go : (q : Kind) → kindAt s i ≡ q → k < linksKind i q → j ≡ linkKind i k q → Edge s i j ⊎ (kindAt s i ≡ Str j)

@@ -8,7 +8,7 @@ use native.Mathlib.Decide.{ℕ-discrete}
 use borrow.Author.Tests.{eq-eqb, ne-eqb, lt-ltb}
 use Rattle.cell.specs.declared.Kind.{Kind}
 use Rattle.cell.specs.declared.Kind.the-variants.{Var, Str, Lis, Atom, Fixnum, Bad}
-use Rattle.store.specs.Store.{kindAt, isHeader, termAt, keeps, step, stepKind, WellFormed}
+use Rattle.store.specs.Store.{kindAt, isHeader, keeps, step, stepKind, WellFormed}
 use Rattle.store.specs.Steps.{steps-fixed, term-plain}
 use Rattle.store.specs.Ends.{end-next}
 use Rattle.store.specs.WellFormed.{end-stays}
@@ -86,7 +86,7 @@ module _ (s : List ℕ) (top : ℕ) (wf : WellFormed s top) (i : ℕ) (l : 1 ≤
           (λ k. ap (kidKind k) e ∙ sym (ap (λ (q : Kind). f + behind q + k) is))
 
   of-lis : (m : ℕ) → kindAt s i ≡ Lis m → Shows s top i
-  unfolding step stepKind viewKind deg degKind kid kidKind termAt
+  unfolding step stepKind viewKind deg degKind kid kidKind
   of-lis m e =
       let t = lis-terms s top wf i l h m e .0 in
       let p = flat (kindAt s m) (term-plain s top m t) in

@@ -6,7 +6,7 @@ use native.Mathlib.Omega.{arith}
 use lib.IntN.{ℤ}
 use Rattle.cell.specs.declared.Kind.{Kind}
 use Rattle.cell.specs.declared.Kind.the-variants.{Var, Str, Lis, Atom, Fixnum}
-use Rattle.store.specs.Store.{kindAt, termAt, step, stepKind, WellFormed}
+use Rattle.store.specs.Store.{kindAt, step, stepKind, WellFormed}
 use Rattle.store.specs.Steps.{term-plain}
 use Rattle.cycle.specs.Kids.{lis-terms}
 use Rattle.terms.specs.View.{atom, number, strView, viewKind, lookAt, funKind, behind, shapeOf}
@@ -52,7 +52,7 @@ module _ (s : List ℕ) (top : ℕ) (wf : WellFormed s top) (i : ℕ) (l : 1 ≤
 
   -- a Lis means '.'/2 of the terms of its two cells
   pub lis-means : (p : ℕ) (t u : Term) → kindAt s i ≡ Lis p → StandsAt s top t p → StandsAt s top u (p + 1) → StandsAt s top (compound 46 (more t (one u))) i
-  unfolding step stepKind viewKind termAt
+  unfolding step stepKind viewKind
   lis-means p t u e ht hu =
       let d = lis-terms s top wf i l h p e .0 in
       let f = flat (kindAt s p) (term-plain s top p d) in

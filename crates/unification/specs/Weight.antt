@@ -146,7 +146,7 @@ module _ (s : List ℕ) (top : ℕ) (wf : WellFormed s top) where
   none-zero = ap (λ (w : ℕ). arityKind (kindOf w)) (wf .zeroth)
 
   bare-term : (i : ℕ) → termAt s top i ≡ true → arityAt s i ≡ 0
-  unfolding arityAt termAt
+  unfolding arityAt
   bare-term i t = no-arguments (kindAt s i) (term-plain s top i t)
 
   -- the cells behind a used cell are used, and are no headers

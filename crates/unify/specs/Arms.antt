@@ -13,7 +13,7 @@ use denote.Enum.Declared.{tagOf}
 use Rattle.cell.proofs.Kind.{the-type}
 use Rattle.cell.specs.declared.Kind.{Kind}
 use Rattle.cell.specs.declared.Kind.the-variants.{Var, Str, Lis, Atom, Fixnum, Bad}
-use Rattle.store.specs.Store.{kindAt, termAt, atomAt, isAtom, keeps, step, stepKind}
+use Rattle.store.specs.Store.{kindAt, atomAt, isAtom, keeps, step, stepKind}
 use Rattle.store.specs.Steps.{term-plain}
 use Rattle.cycle.specs.Kids.{arityAt, str-atom, lis-terms}
 use Rattle.terms.specs.View.{Constant, atom, number, View, free, con, nod, Shape, strView, viewKind, dot, funKind, behind, shapeOf}
@@ -167,7 +167,7 @@ module _ {cells : List ℕ} {a : ℕ} {j : Kind} {b : ℕ} {k : Kind} (t : Two c
 
   -- the first cell of a pair
   pub right-pair : {l : ℕ} → k ≡ Lis l → (viewKind cells k ≡ nod l) × (shapeOf cells .fun l ≡ dot) × (behind (kindAt cells l) ≡ 0)
-  unfolding viewKind termAt
+  unfolding viewKind
   right-pair {l} e =
       let r = t .right in
       let at = lis-terms cells (t .top) (t .store) b (r .low) (r .high) l (sym (r .is) ∙ e) .0 in
