@@ -22,7 +22,7 @@ use Rattle.store.specs.Ends.{ends-in}
 use Rattle.store.specs.WellFormed.{parts, along, the-rest, no-low}
 use Rattle.trail.specs.Rules.{unboundAt, namesBound, entryNew, entryKeeps, trailUsed, trailGood, markWidth, markTop, markTrail, topBefore, trailBefore, marksGood}
 use Rattle.trail.specs.State.{State, holds}
-use Rattle.trail.specs.Table.{bitAt}
+use Rattle.cell_set.specs.Table.{bitAt}
 use Rattle.trail.specs.Seen.{Seen, Named}
 use Rattle.trail.specs.Facts.{TrailGood, MarkGood, MarksGood, marks-whole, mark-agrees, Holds, bound-used}
 use Rattle.store.specs.Zeros.{zeroed, length-zeroed, zeroed-below, zeroed-from}

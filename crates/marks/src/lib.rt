@@ -1,11 +1,10 @@
 // Marks on a store: set one, roll back to one, cut those above one.
 ghost use mathlib.Core.Path.{_≡_};
 ghost use mathlib.Core.Bool.{true};
-ghost use Prim.Native.Nat.{ℕ, _+_, _-_, _*_, _<_, _≤_};
+ghost use Prim.Native.Nat.{ℕ, _+_, _-_, _*_, _/_, _<_, _≤_};
 ghost use lib.ListN.{length, replicate};
 ghost use Rattle.store.specs.Store.{limit};
 ghost use Rattle.trail.specs.State.{stateOf, said};
-ghost use Rattle.trail.specs.Table.{words};
 ghost use Rattle.trail.specs.Seen.{Seen};
 ghost use Rattle.trail.specs.Rules.{markWidth, markTop, markTrail};
 ghost use Rattle.marks.specs.Unbind.{unbind, Names};
@@ -13,9 +12,9 @@ ghost use Rattle.marks.specs.Calls.{saidMark, marking, cutting, lowered,
 ghost use Rattle.marks.specs.Left.{keepsLeft, cellsLeft, trailLeft, LeftGood, Lowers};
 use cell::Kind;
 use cell::Refusal;
+use store::SET;
 use trail::Answer;
 use trail::MARK_WIDTH;
-use trail::TABLE;
 
 // A mark's number, or why it was not set.
 pub enum Marked {
@@ -72,29 +71,29 @@ pub fn cut(
 }
 
 // Notes the cells that the trail names from a place to another.
-fn note_named(trail: &[u64], from: usize, to: usize, freed: &mut [u64; TABLE])
-    requires { ⌜ Names (now trail) from to limit × (now freed ≡ replicate words 0) ⌝ }
+fn note_named(trail: &[u64], from: usize, to: usize, freed: &mut [u64; SET])
+    requires { ⌜ Names (now trail) from to limit × (now freed ≡ replicate (limit / 64) 0) ⌝ }
     ensures { λ r. ⌜ Seen (now (trail .entry)) from (now (freed .exit)) to ⌝ }
 {
     let mut i = from;
     while i < to {
         let e = trail[i] as usize;
-        trail::note(freed, e);
+        cell_set::note(freed, e);
         i += 1;
     }
 }
 
 // Whether the cell at `i` keeps to its row in a store of `t` cells where the noted ones are unbound.
-fn keeps_left(cells: &[u64], freed: &[u64; TABLE], t: usize, i: usize) -> bool
+fn keeps_left(cells: &[u64], freed: &[u64; SET], t: usize, i: usize) -> bool
     requires { ⌜ (i < t) × (t ≤ limit) × (t ≤ length (now cells)) ⌝ }
     ensures { λ r. ⌜ r ≡ keepsLeft (now (cells .entry)) (now (freed .entry)) t i ⌝ }
 {
-    if trail::is_noted(freed, i) {
+    if cell_set::is_noted(freed, i) {
         return true;
     }
     match store::kind_at(cells, i) {
         Kind::Var(v) => v < t,
-        Kind::Str(f) => f < t && !trail::is_noted(freed, f),
+        Kind::Str(f) => f < t && !cell_set::is_noted(freed, f),
         Kind::Lis(l) => l < t - 1,
         Kind::Atom { name: _, arity } => arity < t - i,
         Kind::Fixnum(_) => true,
@@ -102,7 +101,7 @@ fn keeps_left(cells: &[u64], freed: &[u64; TABLE], t: usize, i: usize) -> bool
     }
 }
 
-fn cells_left(cells: &[u64], freed: &[u64; TABLE], t: usize) -> bool
+fn cells_left(cells: &[u64], freed: &[u64; SET], t: usize) -> bool
     requires { ⌜ (t ≤ limit) × (t ≤ length (now cells)) ⌝ }
     ensures { λ r. ⌜ r ≡ cellsLeft (now (cells .entry)) (now (freed .entry)) t ⌝ }
 {
@@ -136,7 +135,7 @@ fn left_good(cells: &[u64], trail: &[u64], trailed: usize, t: usize, c: usize) -
     requires { ⌜ ((top : ℕ) × Lowers (now cells) top (now trail) trailed t c) ⌝ }
     ensures { λ r. ⌜ LeftGood (now (cells .entry)) (now (trail .entry)) trailed t c r ⌝ }
 {
-    let mut freed = [0u64; TABLE];
+    let mut freed = [0u64; SET];
     note_named(trail, c, trailed, &mut freed);
     if t < 1 {
         return false;

@@ -15,6 +15,9 @@ use cell::Refusal;
 // The most cells that a store may use.
 pub const LIMIT: usize = 4096;
 
+// How many words a set of cells takes, with a bit for each.
+pub const SET: usize = LIMIT / 64;
+
 // The least and the greatest word of an Atom of arity above 0.
 const HEADER_FIRST: u64 = 0x1000_0001_0000_0000;
 

@@ -3,6 +3,5 @@ pub mod Rules
 pub mod State
 -- The same rules as facts.
 pub mod Facts
--- The table with which the code finds entries that are alike.
-pub mod Table
+-- The set of cells with which the code finds entries that are alike.
 pub mod Seen

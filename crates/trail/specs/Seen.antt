@@ -9,7 +9,7 @@ use lib.ListN.{length, getD, replicate}
 use lib.Dec.{eqb}
 use borrow.Author.Tests.{eq-eqb, ne-eqb}
 use Rattle.store.specs.All.{all-true, all-broken}
-use Rattle.trail.specs.Table.{bitAt, noting, bit-none, bit-same, bit-other}
+use Rattle.cell_set.specs.Table.{bitAt, noting, bit-none, bit-same, bit-other}
 use Rattle.trail.specs.Rules.{namesBound, entryNew, entryKeeps}
 
 -- an entry from a place to another names cell j

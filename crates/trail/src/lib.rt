@@ -1,15 +1,13 @@
 // The trail and the marks beside a store's cells: their rules, and the store check, which every call
 // that is lent them makes first.
 ghost use mathlib.Core.Path.{_≡_};
-ghost use Prim.Native.Nat.{_<_, _≤_};
-ghost use lib.Dec.{eqb};
+ghost use Prim.Native.Nat.{_≤_};
 ghost use lib.ListN.{length};
 ghost use Rattle.store.specs.Store.{limit};
-ghost use Rattle.trail.specs.Table.{bitAt, noting};
 ghost use Rattle.trail.specs.Rules.{namesBound, trailUsed, trailGood, marksGood, rises};
 ghost use Rattle.trail.specs.State.{stateOf, checkOf};
 use cell::Refusal;
-use store::LIMIT;
+use store::SET;
 
 // How many words a mark has: the `top` and the trail count at which it was set.
 pub const MARK_WIDTH: usize = 2;
@@ -34,28 +32,6 @@ fn names_bound(cells: &[u64], top: usize, e: usize) -> bool
     cells[e] != cell::var_word(e)
 }
 
-// How many words a table of cells has, with a bit for each cell.
-pub const TABLE: usize = LIMIT / 64;
-
-// Whether a cell is noted in a table.
-pub fn is_noted(table: &[u64; TABLE], i: usize) -> bool
-    requires { ⌜ i < limit ⌝ }
-    ensures { λ r. ⌜ r ≡ eqb (bitAt (now (table .entry)) i) 1 ⌝ }
-{
-    let w = i / 64;
-    (table[w] >> (i % 64)) & 1 == 1
-}
-
-// Notes a cell in a table.
-pub fn note(table: &mut [u64; TABLE], i: usize)
-    requires { ⌜ i < limit ⌝ }
-    ensures { λ r. ⌜ now (table .exit) ≡ noting (now (table .entry)) i ⌝ }
-{
-    let w = i / 64;
-    let bit: u64 = 1 << (i % 64);
-    table[w] |= bit;
-}
-
 // Whether the used entries of the trail keep their rules. `seen` notes the cells that were named.
 fn trail_used(cells: &[u64], top: usize, trail: &[u64], trailed: usize) -> bool
     requires { ⌜ (top ≤ limit) × (top ≤ length (now cells)) ⌝ }
@@ -67,17 +43,17 @@ fn trail_used(cells: &[u64], top: usize, trail: &[u64], trailed: usize) -> bool
     if trailed == 0 {
         return true;
     }
-    let mut seen = [0u64; TABLE];
+    let mut seen = [0u64; SET];
     let mut i = 0;
     while i < trailed {
         let e = trail[i] as usize;
         if !names_bound(cells, top, e) {
             return false;
         }
-        if is_noted(&seen, e) {
+        if cell_set::is_noted(&seen, e) {
             return false;
         }
-        note(&mut seen, e);
+        cell_set::note(&mut seen, e);
         i += 1;
     }
     true

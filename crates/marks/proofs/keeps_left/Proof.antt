@@ -24,10 +24,10 @@ kind-at-requires : tie.Need-kind-at-requires
 kind-at-requires c κs = search needs
 
 -- an arm's answer, of a cell that does not become unbound
-arm : (c : tie.After-kind-at) (k : Kind) → c .kind-at .result ≡ k → (r : Bool) → let a = c .before .before .before .before .args in r ≡ rowLeft (now (a .freed)) (a .t) (a .i) k → r ≡ keepsLeft (now (a .cells)) (now (a .freed)) (a .t) (a .i)
+arm : (c : tie.After-kind-at) (k : Kind) → c .kind-at .result ≡ k → (r : Bool) → let a = c .before .before .before .before .before .args in r ≡ rowLeft (now (a .freed)) (a .t) (a .i) k → r ≡ keepsLeft (now (a .cells)) (now (a .freed)) (a .t) (a .i)
 unfolding keepsLeft
 arm c k e r q =
-    let a = c .before .before .before .before .args in
+    let a = c .before .before .before .before .before .args in
     rw (sym (c .before .before .is-noted .ensures) ∙ c .before .if1 .left, ← c .kind-at .ensures) (q ∙ ap (rowLeft (now (a .freed)) (a .t) (a .i)) (sym e))
 
 -- a sum below t, tested without the sum
@@ -67,7 +67,7 @@ returns-2 c = arm (c .before .before .before) _ (c .before .v .given .1) _ refl
 
 returns-3 : tie.Need-returns-3
 unfolding rowLeft
-returns-3 c = arm (c .before .before .before .before .before) _ (c .before .before .before .f .given .1) _ (rw (lt-ltb _ _ (c .before .if2 .taken), ← c .is-noted2 .ensures))
+returns-3 c = arm (c .before .before .before .before .before .before) _ (c .before .before .before .before .f .given .1) _ (rw (lt-ltb _ _ (c .before .before .if2 .taken), ← c .is-noted2 .ensures))
 
 returns-4 : tie.Need-returns-4
 unfolding rowLeft
@@ -82,7 +82,7 @@ returns-5 c =
 
 returns-6 : tie.Need-returns-6
 unfolding rowLeft
-returns-6 c = arm (c .before .before .before) _ (c .before .arity .given .1) _ (less (c .before .before .before .before .before .before .before .args .i) _ _ (omega arith))
+returns-6 c = arm (c .before .before .before) _ (c .before .arity .given .1) _ (less (c .before .before .before .before .before .before .before .before .args .i) _ _ (omega arith))
 
 returns-7 : tie.Need-returns-7
 unfolding rowLeft

@@ -1,22 +1,23 @@
 -- `marks::note_named` meets its contract. The loop's invariant: the table says 1 of just the cells that the entries from `from` to `i` name.
 use mathlib.Core.Path.{_≡_, refl, ap, subst, _∙_}
-use Prim.Native.Nat.{ℕ, _-_, _≤_}
+use Prim.Native.Nat.{ℕ, _-_, _/_, _≤_}
 use native.Mathlib.Omega.{arith}
 use lib.ListN.{length, length-replicate}
-use Rattle.trail.specs.Table.{words, length-noting}
+use Rattle.cell_set.specs.Table.{length-noting}
+use Rattle.store.specs.Store.{limit}
 use Rattle.trail.specs.Seen.{Seen, seen-none, seen-more}
 use borrow.Author.Needs.{needs}
 use Rattle.marks.proofs.note_named.Statement.{statement}
 use Rattle.marks.proofs.note_named.Tie as tie
 
 abbrev Inv-loop : tie.InvT-loop
-Inv-loop trail from to freed₀ i₀ freed i = (from ≤ i) × (i ≤ to) × (length freed ≡ words) × Seen trail from freed i
+Inv-loop trail from to freed₀ i₀ freed i = (from ≤ i) × (i ≤ to) × (length freed ≡ limit / 64) × Seen trail from freed i
 
 abbrev μ-loop : tie.MeasureT-loop
 μ-loop trail from to freed₀ i₀ freed i = to - i
 
 loop-holds : tie.Need-loop-holds Inv-loop μ-loop
-loop-holds c = let e = c .before .pre .1 in (omega arith, c .before .pre .0 .order, ap length e ∙ length-replicate {A = ℕ} words 0, seen-none _ _ words _ e)
+loop-holds c = let e = c .before .pre .1 in (omega arith, c .before .pre .0 .order, ap length e ∙ length-replicate {A = ℕ} (limit / 64) 0, seen-none _ _ (limit / 64) _ e)
 
 mul-e : tie.Need-mul-e Inv-loop μ-loop
 mul-e c = search needs

@@ -5,15 +5,10 @@ use Prim.Native.Nat.{ℕ, zero, suc, _+_, _-_, _/_, _%_, _^_, _<_}
 use native.Mathlib.Nat.{one-mul, div-eq-of-lt}
 use native.Mathlib.Omega.{arith}
 use native.Mathlib.Decide.{ℕ-discrete, decLt}
-use lib.ListN.{length, getD, set, replicate, length-set}
+use lib.ListN.{length, getD, set, replicate, length-set, length-replicate, getD-replicate, List·getD-eq-default}
 use lib.Seq.{getD-set-same, getD-set-other}
 use lib.Bits.{bitOr, or-mod, or-shr, or-zero-r, shifted-even}
 use lib.Pow.{pow-add, pow-lt, pow-pos, shl-shr}
-use Rattle.store.specs.Zeros.{zero-at}
-
--- how many words the table has
-abbrev pub words : ℕ
-words = 64
 
 -- the bit of cell j: 1 where it is noted
 unfoldable pub bitAt : List ℕ → ℕ → ℕ
@@ -57,7 +52,12 @@ word-other w k j n = rw (or-shr w (2 ^ k) j) (or-even (w / 2 ^ j) (2 ^ k / 2 ^ j
 -- ---- none is noted in a table of zeros, and noting a cell changes it alone
 pub bit-none : (n j : ℕ) → bitAt (replicate n 0) j ≡ 0
 unfolding bitAt
-bit-none n j = rw (zero-at n (j / 64)) (ap (λ (x : ℕ). x % 2) (div-eq-of-lt (pow-pos (j % 64))))
+bit-none n j = rw zero (ap (λ (x : ℕ). x % 2) (div-eq-of-lt (pow-pos (j % 64))))
+  where
+    zero : getD {A = ℕ} (replicate n 0) (j / 64) 0 ≡ 0
+    zero =
+        let z = length-replicate {A = ℕ} n 0 in
+        elim (decLt (j / 64) n) [ yes l ↦ getD-replicate n (j / 64) 0 0 l | no l ↦ List·getD-eq-default (replicate n 0) 0 (omega arith) ]
 
 module _ (table : List ℕ) (e : ℕ) where
   pub length-noting : length (noting table e) ≡ length table

@@ -1,0 +1,2 @@
+-- Definitions: the bit of a cell, and the table with a cell noted. Laws of them.
+pub mod Table
