@@ -10,7 +10,8 @@ use Rattle.cell.specs.declared.Refusal.the-variants.{Room, Words}
 use Rattle.store.specs.Store.{limit, cellsKeep, cellsEnd, wellFormed, WellFormed}
 use Rattle.store.specs.Zeros.{zeroed}
 use Rattle.store.specs.WellFormed.{parts}
-use Rattle.store.specs.Over.{new-keep, new-only}
+use Rattle.store.specs.Turns.{EndsBelow}
+use Rattle.store.specs.Over.{old-ends, new-keep, new-only}
 use Rattle.trail.specs.State.{State, stateOf, done, refused}
 use Rattle.trail.specs.Facts.{Holds, check-holds}
 use Rattle.append.specs.Laid.{laid, laid-length, laid-below, laid-after, laid-undone}
@@ -51,6 +52,10 @@ module _ (s : State) (ws : List ℕ) (h : Holds s) where
 
         pub keep-all : cellsKeep cs (s .top) (s .top + length ws) ≡ true → cellsKeep cs 1 (s .top + length ws) ≡ true
         keep-all = new-keep (s .cells) cs (s .top) (s .top + length ws) cells-are (omega arith) below high room-kept rest-kept
+
+        -- following still ends at the old cells
+        pub ends-old : EndsBelow cs (s .top)
+        ends-old = record { below = old-ends (s .cells) cs (s .top) (s .top + length ws) cells-are (omega arith) below }
 
         -- the test of the new cells is the test of the whole store
         module _ (x : Bool) (e : x ≡ (cellsKeep cs (s .top) (s .top + length ws) && cellsEnd cs (s .top) (s .top + length ws))) where

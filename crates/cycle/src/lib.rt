@@ -18,9 +18,7 @@ ghost use Rattle.cycle.specs.Met.{metLinks};
 use cell::Kind;
 use cell::Refusal;
 use store::LIMIT;
-
-// The most cells of a store that the small tables of a walk are enough for.
-const SMALL: usize = 256;
+use store::SMALL;
 
 // What the cycle verdict answers.
 pub enum Verdict {

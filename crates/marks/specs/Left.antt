@@ -8,17 +8,17 @@ use native.Mathlib.Omega.{arith}
 use native.Mathlib.Decide.{decLt}
 use lib.ListN.{length, getD}
 use lib.Dec.{leb, ltb, eqb}
-use borrow.Author.Tests.{lt-ltb, le-ltb, le-leb, lt-leb, eq-eqb, ne-eqb, eqb-true, eqb-false}
+use borrow.Author.Tests.{lt-ltb, le-ltb, le-leb, lt-leb, ne-eqb, eqb-true, eqb-false}
 use Rattle.cell.specs.declared.Kind.{Kind}
 use Rattle.cell.specs.declared.Kind.the-variants.{Var, Str, Lis, Atom, Fixnum, Bad}
 use Rattle.cell.specs.Word.{varWord}
 use Rattle.cell.specs.Kinds.{kindOf, wordOfKind, Proper}
 use Rattle.cell.specs.RoundTrips.{kind-back}
 use Rattle.store.specs.All.{allFrom, all-holds, all-true, all-same}
-use Rattle.store.specs.Store.{limit, kindAt, isHeader, isAtom, noHeader, termAt, atomAt, runAt, keeps, keepsAt, step, stepKind, steps, Ends, endOf, endsAt, cellsKeep, cellsEnd, wellFormed, WellFormed}
+use Rattle.store.specs.Store.{limit, kindAt, isHeader, isAtom, noHeader, termAt, atomAt, runAt, keeps, keepsAt, step, stepKind, Ends, cellsKeep, cellsEnd, wellFormed, WellFormed}
 use Rattle.store.specs.Steps.{step-used, term-used, term-plain}
 use Rattle.store.specs.Zeros.{zeros-back}
-use Rattle.store.specs.Ends.{ends-in}
+use Rattle.store.specs.Ends.{ends-stay, ends-back, ends-cells}
 use Rattle.store.specs.WellFormed.{parts, along, the-rest, no-low}
 use Rattle.trail.specs.Rules.{unboundAt, namesBound, entryNew, entryKeeps, trailUsed, trailGood, markWidth, markTop, markTrail, topBefore, trailBefore, marksGood}
 use Rattle.trail.specs.State.{State, holds}
@@ -132,26 +132,25 @@ module _ (s u freed : List ℕ) (top t : ℕ) (wf : WellFormed s top) (within : 
 
   -- following ends: a freed cell stays, and any other goes where it went
   ends-left : cellsKeep u 1 t ≡ true → (i : ℕ) → 1 ≤ i → i < t → Ends u i
-  unfolding step steps stepKind
+  unfolding step stepKind
   ends-left k i a b = along s top wf (λ (j : ℕ). j < t → Ends u j) here back i a (omega arith) b
     where
       here : (j : ℕ) → 1 ≤ j → j < top → step s j ≡ j → j < t → Ends u j
-      here j a b e l = (0, by-freed (λ (q : Kind). stepKind j q ≡ j) j l (λ _. refl) (λ _. e))
+      here j a b e l = ends-stay u j (by-freed (λ (q : Kind). stepKind j q ≡ j) j l (λ _. refl) (λ _. e))
 
       back : (j : ℕ) → 1 ≤ j → j < top → (step s j ≡ j → ⊥) → (step s j < t → Ends u (step s j)) → j < t → Ends u j
       back j a b n p l = go (isFreed freed j) refl
         where
           go : (x : Bool) → isFreed freed j ≡ x → Ends u j
-          go true e = (0, ap (stepKind j) (ap kindOf (free j l e) ∙ var-back j l))
+          go true e = ends-stay u j (ap (stepKind j) (ap kindOf (free j l e) ∙ var-back j l))
           go false e =
               let q : step u j ≡ step s j = ap (λ (w : ℕ). stepKind j (kindOf w)) (same j l e) in
               let b = step-used u t k j a l .1 in
-              let r = subst (Ends u) (sym q) (p (omega arith)) in
-              (suc (r .0), r .1)
+              ends-back u j (subst (Ends u) (sym q) (p (omega arith)))
 
   module _ (room : t ≤ length u) (zeroth : getD u 0 0 ≡ 0) (rest : (j : ℕ) → t ≤ j → getD u j 0 ≡ 0) where
     pub formed-left : wellFormed u t ≡ cellsLeft s freed t
-    unfolding cellsLeft cellsKeep cellsEnd endsAt
+    unfolding cellsLeft cellsKeep
     formed-left =
         let h = wf .high in
         sym (the-rest u t low (omega arith) room zeroth) ∙ rw (zeros-back u t rest) (go (cellsKeep u 1 t) refl)
@@ -160,7 +159,7 @@ module _ (s u freed : List ℕ) (top t : ℕ) (wf : WellFormed s top) (within : 
         kept = all-same (keepsAt u t) (keepsLeft s freed t) (t - 1) 1 (λ i a b. keeps-left i a (omega arith))
 
         go : (b : Bool) → cellsKeep u 1 t ≡ b → (b && cellsEnd u 1 t) ≡ cellsLeft s freed t
-        go true k = all-true (endsAt u t) (t - 1) 1 (λ i a b. eq-eqb (step u (endOf u t i)) (endOf u t i) (ends-in u t k i a (omega arith) (ends-left k i a (omega arith)))) ∙ sym k ∙ kept
+        go true k = ends-cells u t k 1 (omega arith) (ends-left k) ∙ sym k ∙ kept
         go false k = sym k ∙ kept
 
 -- ---- the trail's entries up to c, of which none is freed

@@ -9,5 +9,7 @@ pub mod Part
 pub mod Steps
 pub mod Pigeon
 pub mod Ends
+pub mod Turns
+pub mod Walk
 pub mod WellFormed
 pub mod Over

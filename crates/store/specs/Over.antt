@@ -2,18 +2,18 @@
 use mathlib.Core.Path.{_≡_, refl, sym, ap, subst, _∙_}
 use mathlib.Core.Bool.{Bool, true, false, not, _&&_, and-eq-true-iff}
 use mathlib.Core.List.{List}
-use Prim.Native.Nat.{ℕ, suc, _+_, _-_, _<_, _≤_}
+use Prim.Native.Nat.{ℕ, _+_, _-_, _<_, _≤_}
 use native.Mathlib.Omega.{arith}
 use lib.ListN.{length, getD}
 use lib.Dec.{leb, ltb}
-use borrow.Author.Tests.{ltb-true, lt-ltb, eq-eqb}
+use borrow.Author.Tests.{ltb-true, lt-ltb}
 use Rattle.cell.specs.declared.Kind.{Kind}
 use Rattle.cell.specs.declared.Kind.the-variants.{Var, Str, Lis, Atom, Fixnum, Bad}
 use Rattle.cell.specs.Kinds.{kindOf}
 use Rattle.store.specs.All.{allFrom, all-holds, all-true, all-skip}
-use Rattle.store.specs.Store.{limit, kindAt, isHeader, isAtom, noHeader, termAt, atomAt, runAt, keeps, keepsAt, step, steps, Ends, endOf, endsAt, cellsKeep, cellsEnd, wellFormed, WellFormed}
+use Rattle.store.specs.Store.{limit, kindAt, isHeader, isAtom, noHeader, termAt, atomAt, runAt, keeps, keepsAt, Ends, endsAt, cellsKeep, cellsEnd, wellFormed, WellFormed}
 use Rattle.store.specs.Steps.{same-step}
-use Rattle.store.specs.Ends.{ends-in}
+use Rattle.store.specs.Ends.{ends-stay, ends-back, ends-test}
 use Rattle.store.specs.Zeros.{zeros-back}
 use Rattle.store.specs.WellFormed.{along, the-rest}
 
@@ -69,11 +69,7 @@ module _ (s t : List ℕ) (top up : ℕ) (wf : WellFormed s top) (more : top ≤
 
   -- following still ends at each
   pub old-ends : (i : ℕ) → 1 ≤ i → i < top → Ends t i
-  unfolding steps
-  old-ends =
-      along s top wf (Ends t)
-      (λ i a b e. (0, same-step s t i (same i b) ∙ e))
-      (λ i a b n p. let q = subst (Ends t) (sym (same-step s t i (same i b))) p in (suc (q .0), q .1))
+  old-ends = along s top wf (Ends t) (λ i a b e. ends-stay t i (same-step s t i (same i b) ∙ e)) (λ i a b n p. ends-back t i (subst (Ends t) (sym (same-step s t i (same i b))) p))
 
   -- so only the new cells have to be tested
   module _ (high : up ≤ limit) (room : up ≤ length t) (rest : (i : ℕ) → up ≤ i → getD t i 0 ≡ 0) where
@@ -85,11 +81,11 @@ module _ (s t : List ℕ) (top up : ℕ) (wf : WellFormed s top) (more : top ≤
         all-skip (keepsAt t up) (top - 1) 1 (omega arith) (λ j a b. old-keep j a (omega arith)) ∙ ap (λ (k : ℕ). allFrom k (up - k) (keepsAt t up)) z
 
     ends-new : cellsKeep t 1 up ≡ true → cellsEnd t 1 up ≡ cellsEnd t top up
-    unfolding cellsEnd endsAt
+    unfolding cellsEnd
     ends-new k =
         let l = wf .low in
         let z : 1 + (top - 1) ≡ top = omega arith in
-        all-skip (endsAt t up) (top - 1) 1 (omega arith) (λ j a b. eq-eqb (step t (endOf t up j)) (endOf t up j) (ends-in t up k j a (omega arith) (old-ends j a (omega arith)))) ∙ ap (λ (k : ℕ). allFrom k (up - k) (endsAt t up)) z
+        all-skip (endsAt t up) (top - 1) 1 (omega arith) (λ j a b. ends-test t up k j a (omega arith) (old-ends j a (omega arith))) ∙ ap (λ (k : ℕ). allFrom k (up - k) (endsAt t up)) z
 
     pub new-keep : cellsKeep t top up ≡ true → cellsKeep t 1 up ≡ true
     new-keep h = keep-new ∙ h

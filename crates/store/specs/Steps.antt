@@ -1,17 +1,17 @@
 -- Laws of steps along Vars: they come to used cells, and stay where one stays.
-use mathlib.Core.Path.{_≡_, refl, ap, ap₂, _∙_}
+use mathlib.Core.Path.{_≡_, refl, sym, ap, subst}
 use mathlib.Core.Bool.{true, _&&_, and-eq-true-iff}
 use mathlib.Core.List.{List}
 use Prim.Native.Nat.{ℕ, zero, suc, _+_, _-_, _<_, _≤_}
 use native.Mathlib.Omega.{arith}
 use lib.ListN.{getD}
-use lib.Dec.{leb, ltb, eqb}
+use lib.Dec.{leb, ltb}
 use borrow.Author.Tests.{ltb-true, leb-true}
 use Rattle.cell.specs.Kinds.{kindOf}
 use Rattle.cell.specs.declared.Kind.{Kind}
 use Rattle.cell.specs.declared.Kind.the-variants.{Var, Str, Lis, Atom, Fixnum, Bad}
 use Rattle.store.specs.All.{all-holds}
-use Rattle.store.specs.Store.{kindAt, keepsAt, endOf, noHeader, termAt, keeps, step, stepKind, steps, endsAt, cellsKeep}
+use Rattle.store.specs.Store.{kindAt, keepsAt, noHeader, termAt, keeps, step, stepKind, steps, cellsKeep}
 
 module _ (s : List ℕ) where
   pub steps-split : (i : ℕ) {n top : ℕ} → n < top → steps s (top - n) i ≡ steps s (top - (n + 1)) (step s i)
@@ -58,6 +58,9 @@ module _ (s : List ℕ) where
   unfolding step
   step-used top all i l h = keeps-used top i l h (kindAt s i) (keeps-all top all i l h)
 
+  pub next-used : (top : ℕ) → cellsKeep s 1 top ≡ true → {i next : ℕ} → 1 ≤ i → i < top → next ≡ step s i → (1 ≤ next) × (next < top)
+  next-used top all {i} l h e = subst (λ (j : ℕ). (1 ≤ j) × (j < top)) (sym e) (step-used top all i l h)
+
   pub steps-used : (top : ℕ) → cellsKeep s 1 top ≡ true → (n i : ℕ) → 1 ≤ i → i < top → (1 ≤ steps s n i) × (steps s n i < top)
   unfolding steps
   steps-used top all zero i l h = (l, h)
@@ -67,7 +70,3 @@ module _ (s : List ℕ) where
   pub same-step : (t : List ℕ) (i : ℕ) → getD t i 0 ≡ getD s i 0 → step t i ≡ step s i
   unfolding step
   same-step t i e = ap (λ (w : ℕ). stepKind i (kindOf w)) e
-
-  pub ends-is : (top at e n : ℕ) → e ≡ endOf s top at → n ≡ step s e → eqb n e ≡ endsAt s top at
-  unfolding endsAt
-  ends-is top at e n p q = ap₂ eqb (q ∙ ap (step s) p) p

@@ -11,7 +11,7 @@ use borrow.Author.Tests.{leb-true, eqb-true, lt-leb, le-leb, eq-eqb, ne-eqb}
 use Rattle.store.specs.All.{all-holds, all-true}
 use Rattle.store.specs.Store.{keepsAt, step, steps, endsAt, zeroFrom, cellsKeep, cellsEnd, wellFormed, WellFormed, Ends, endOf, limit}
 use Rattle.store.specs.Steps.{keeps-all, step-used, steps-used}
-use Rattle.store.specs.Ends.{ends-in}
+use Rattle.store.specs.Ends.{ends-in, ends-tested, ends-cells}
 use Rattle.store.specs.Zeros.{zeros, zeros-back}
 
 module _ (s : List ℕ) (top : ℕ) where
@@ -48,8 +48,8 @@ module _ (s : List ℕ) (top : ℕ) where
 -- ---- the test and the facts are the same
 module _ (s : List ℕ) (top : ℕ) where
   ends-of : cellsEnd s 1 top ≡ true → (i : ℕ) → 1 ≤ i → i < top → Ends s i
-  unfolding cellsEnd endsAt
-  ends-of h i l g = (top, eqb-true (step s (endOf s top i)) (endOf s top i) (all-holds (endsAt s top) (top - 1) 1 h i l (omega arith)))
+  unfolding cellsEnd
+  ends-of h i l g = ends-tested s top i (all-holds (endsAt s top) (top - 1) 1 h i l (omega arith))
 
   pub parts : wellFormed s top ≡ true → WellFormed s top
   unfolding wellFormed
@@ -67,12 +67,6 @@ module _ (s : List ℕ) (top : ℕ) where
     unfolding cellsKeep
     keeps-cells = let l = w .low in all-true (keepsAt s top) (top - 1) 1 (λ i a b. w .keep i a (omega arith))
 
-    ends-cells : cellsEnd s 1 top ≡ true
-    unfolding cellsEnd endsAt
-    ends-cells =
-        let l = w .low in
-        all-true (endsAt s top) (top - 1) 1 (λ i a b. eq-eqb (step s (endOf s top i)) (endOf s top i) (ends-in s top keeps-cells i a (omega arith) (w .ends i a (omega arith))))
-
     -- following stays where `top` steps lead
     pub end-stays : (i : ℕ) → 1 ≤ i → i < top → step s (endOf s top i) ≡ endOf s top i
     end-stays i a b = ends-in s top keeps-cells i a b (w .ends i a b)
@@ -82,7 +76,7 @@ module _ (s : List ℕ) (top : ℕ) where
     steps-in = steps-used s top keeps-cells
 
     pub whole : wellFormed s top ≡ true
-    whole = sym (the-rest s top (w .low) (w .high) (w .room) (w .zeroth)) ∙ rw (zeros-back s top (w .rest), keeps-cells) ends-cells
+    whole = sym (the-rest s top (w .low) (w .high) (w .room) (w .zeroth)) ∙ rw (zeros-back s top (w .rest), keeps-cells) (ends-cells s top keeps-cells 1 (omega arith) (w .ends))
 
 -- ---- the induction along Vars: what holds where following ends, and goes back along a step, holds at each used cell
 module _ (s : List ℕ) (top : ℕ) (wf : WellFormed s top) (P : ℕ → Type 0) where

@@ -2,6 +2,7 @@
 // answer and leave.
 mod books;
 mod cells;
+mod chains;
 mod flips;
 mod room;
 mod run;
@@ -17,4 +18,10 @@ fn main() {
     run::history();
     run::left_broken();
     room::limits();
+    chains::rings();
+    chains::tails();
+    chains::turns();
+    chains::sizes();
+    chains::appends();
+    chains::rollbacks();
 }

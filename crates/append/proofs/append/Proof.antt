@@ -9,7 +9,7 @@ use Rattle.store.specs.Store.{limit}
 use Rattle.trail.specs.State.{State, stateOf, check-passed}
 use Rattle.trail.specs.Facts.{Holds, holds-parts}
 use Rattle.append.specs.Calls.{appending}
-use Rattle.append.specs.Appending.{cells-are, over-limit, over-length, room-kept, rest-kept, keep-all, placed, put-away}
+use Rattle.append.specs.Appending.{cells-are, over-limit, over-length, room-kept, rest-kept, keep-all, ends-old, placed, put-away}
 use borrow.Author.Needs.{needs}
 use Rattle.append.proofs.append.Statement.{statement}
 use Rattle.append.proofs.append.Tie as tie
@@ -76,9 +76,10 @@ cells-good-requires : tie.Need-cells-good-requires
 cells-good-requires c κs =
     let d = c .before .before .before .before .before in
     let f = fitting d in
-    let w = cells-are _ (words (d .before .before)) (good (d .before .before)) in
+    let g = good (d .before .before) in
+    let w = cells-are _ (words (d .before .before)) g in
     let e = c .before .before .before .lay-at .ensures in
-    (w .low, f .0, room-kept _ _ (good (d .before .before)) (f .0) (f .1) _ e, keep-all _ _ (good (d .before .before)) (f .0) (f .1) _ e)
+    (w .low, f .0, room-kept _ _ g (f .0) (f .1) _ e, keep-all _ _ g (f .0) (f .1) _ e, ends-old _ _ g (f .0) (f .1) _ e)
 
 add-top : tie.Need-add-top
 add-top c = search needs

@@ -1,52 +1,37 @@
--- `store::cells_end` meets its contract. The loop's invariant: what is left of the cells decides.
-use mathlib.Core.Path.{_≡_, _∙_, sym, refl}
-use Prim.Native.Nat.{_-_, _≤_}
+-- `store::cells_end` meets its contract: no cell is noted in a table of zeros, small or not.
+use Prim.Native.Nat.{_/_}
 use native.Mathlib.Omega.{arith}
 use borrow.Author.Needs.{needs}
-use borrow.Author.Tests.{not-true, not-false}
-use Rattle.store.specs.All.{allFrom, all-done, all-fails, all-goes}
-use Rattle.store.specs.Store.{endsAt, cellsEnd}
+use Rattle.store.specs.Store.{limit}
+use Rattle.store.specs.Walk.{known-none}
 use Rattle.store.proofs.cells_end.Statement.{statement}
 use Rattle.store.proofs.cells_end.Tie as tie
 
-abbrev Inv-loop : tie.InvT-loop
-Inv-loop cells from top i₀ i = (from ≤ i) × (cellsEnd cells from top ≡ allFrom i (top - i) (endsAt cells top))
+slice-aggregate-turns-end : tie.Need-slice-aggregate-turns-end
+slice-aggregate-turns-end c = search needs
 
-abbrev μ-loop : tie.MeasureT-loop
-μ-loop cells from top i₀ i = top - i
+turns-end-requires : tie.Need-turns-end-requires
+turns-end-requires c κs = let p = c .before .before .before .pre in (p .0, p .1, p .2, p .3, p .4, known-none _ _ 4 (omega arith))
 
-loop-holds : tie.Need-loop-holds Inv-loop μ-loop
-unfolding cellsEnd
-loop-holds c = (omega arith, refl)
+returns : tie.Need-returns
+returns c = search needs
 
-ends-at-requires : tie.Need-ends-at-requires Inv-loop μ-loop
-ends-at-requires c κs = search needs
+slice-aggregate-turns-end-2 : tie.Need-slice-aggregate-turns-end-2
+slice-aggregate-turns-end-2 c = search needs
 
-returns : tie.Need-returns Inv-loop μ-loop
-returns c = sym (c .before .before .before .loop .inv .1 ∙ all-fails _ _ (omega arith) (sym (c .before .ends-at .ensures) ∙ not-true _ (c .if1 .taken)))
+turns-end-requires-2 : tie.Need-turns-end-requires-2
+turns-end-requires-2 c κs = let p = c .before .before .before .pre in (p .0, p .1, p .2, p .3, p .4, known-none _ _ (limit / 64) (omega arith))
 
-add-i : tie.Need-add-i Inv-loop μ-loop
-add-i c = search needs
-
-loop-less : tie.Need-loop-less Inv-loop μ-loop
-loop-less c = search needs
-
-loop-again : tie.Need-loop-again Inv-loop μ-loop
-loop-again c = (omega arith, c .before .before .before .loop .inv .1 ∙ all-goes _ _ (omega arith) (sym (c .before .ends-at .ensures) ∙ not-false _ (c .if1 .left)))
-
-returns-2 : tie.Need-returns-2 Inv-loop μ-loop
-returns-2 c = sym (c .before .loop .inv .1 ∙ all-done _ _ (omega arith))
+returns-2 : tie.Need-returns-2
+returns-2 c = search needs
 
 pub cells-end-spec : {M : Type 1} → statement M
 cells-end-spec =
     tie.close
     (tie.spec
-    Inv-loop
-    μ-loop
-    loop-holds
-    ends-at-requires
+    slice-aggregate-turns-end
+    turns-end-requires
     returns
-    add-i
-    loop-less
-    loop-again
+    slice-aggregate-turns-end-2
+    turns-end-requires-2
     returns-2)

@@ -1,18 +1,18 @@
--- `store::cells_good` meets its contract. The loop's invariant, `Surveying`: what is left of the latest header's arguments and of the cells decides, and those before stay while no bound Var was met.
+-- `store::cells_good` meets its contract. The loop's invariant, `Surveying`: what is left of the latest header's arguments and of the cells decides, and no way turns at those before while `turns` is false.
 use mathlib.Core.Path.{_∙_, sym, subst}
 use Prim.Native.Nat.{_-_, _≤_}
 use native.Mathlib.Omega.{arith}
 use borrow.Author.Needs.{needs}
 use Rattle.store.specs.All.{and-fails, and-goes}
-use Rattle.store.specs.Survey.{StandsAt, Surveying, survey-start, survey-breaks, survey-stays, survey-leads, survey-inside, survey-short, survey-heads, survey-keeps, survey-ends}
+use Rattle.store.specs.Survey.{StandsAt, Surveying, survey-start, survey-breaks, survey-keeps, survey-turns, survey-inside, survey-short, survey-heads, survey-kept, survey-ends}
 use Rattle.store.proofs.cells_good.Statement.{statement}
 use Rattle.store.proofs.cells_good.Tie as tie
 
 abbrev Inv-loop : tie.InvT-loop
-Inv-loop cells from top leads₀ last₀ i₀ leads last i = (from ≤ i) × Surveying cells from top leads last i
+Inv-loop cells from top turns₀ last₀ i₀ turns last i = (from ≤ i) × Surveying cells from top turns last i
 
 abbrev μ-loop : tie.MeasureT-loop
-μ-loop cells from top leads₀ last₀ i₀ leads last i = top - i
+μ-loop cells from top turns₀ last₀ i₀ turns last i = top - i
 
 loop-holds : tie.Need-loop-holds Inv-loop μ-loop
 loop-holds c = (omega arith, survey-start _ _ _ (omega arith))
@@ -40,7 +40,7 @@ loop-less c = search needs
 loop-again : tie.Need-loop-again Inv-loop μ-loop
 loop-again c =
     let d = c .before .before in
-    (omega arith, survey-stays _ _ _ (d .before .before .loop .inv .1) (omega arith) (subst (StandsAt _ _ _) (c .enum-told2 .given .1) (d .stands-at .ensures)))
+    (omega arith, survey-keeps _ _ _ (d .before .before .loop .inv .1) (omega arith) (subst (StandsAt _ _ _) (c .enum-told2 .given .1) (d .stands-at .ensures)))
 
 enum-told-3 : tie.Need-enum-told-3 Inv-loop μ-loop
 enum-told-3 c = search needs
@@ -54,7 +54,7 @@ loop-less-2 c = search needs
 loop-again-2 : tie.Need-loop-again-2 Inv-loop μ-loop
 loop-again-2 c =
     let d = c .before .before in
-    (omega arith, survey-leads _ _ _ (d .before .before .loop .inv .1) (omega arith) (subst (StandsAt _ _ _) (c .enum-told3 .given .1) (d .stands-at .ensures)))
+    (omega arith, survey-turns _ _ _ (d .before .before .loop .inv .1) (omega arith) (subst (StandsAt _ _ _) (c .enum-told3 .given .1) (d .stands-at .ensures)))
 
 enum-known-arity : tie.Need-enum-known-arity Inv-loop μ-loop
 enum-known-arity c = search needs
@@ -92,15 +92,18 @@ loop-again-3 c =
 cells-end-requires : tie.Need-cells-end-requires Inv-loop μ-loop
 cells-end-requires c κs =
     let l = c .before .before in
-    (omega arith, omega arith, l .before .before .pre .3 (survey-keeps _ _ _ (l .loop .inv .1) (omega arith) (omega arith)))
+    let p = l .before .before .pre in
+    (p .0, p .1, p .2, p .3 (survey-kept _ _ _ (l .loop .inv .1) (omega arith) (omega arith)), p .4)
 
 returns-4 : tie.Need-returns-4 Inv-loop μ-loop
-returns-4 c = c .cells-end .ensures ∙ and-goes _ _ (survey-keeps _ _ _ (c .before .before .before .loop .inv .1) (omega arith) (omega arith))
+returns-4 c = c .cells-end .ensures ∙ and-goes _ _ (survey-kept _ _ _ (c .before .before .before .loop .inv .1) (omega arith) (omega arith))
 
 returns-5 : tie.Need-returns-5 Inv-loop μ-loop
 returns-5 c =
-    let m = c .before .before .loop .inv .1 in
-    sym (survey-ends _ _ _ m (omega arith) (c .if3 .left)) ∙ and-goes _ _ (survey-keeps _ _ _ m (omega arith) (omega arith))
+    let l = c .before .before in
+    let p = l .before .before .pre in
+    let k = survey-kept _ _ _ (l .loop .inv .1) (omega arith) (omega arith) in
+    sym (survey-ends _ _ _ (l .loop .inv .1) (omega arith) (p .3 k) (p .0) (p .4) (c .if3 .left)) ∙ and-goes _ _ k
 
 pub cells-good-spec : {M : Type 1} → statement M
 cells-good-spec =

@@ -3,6 +3,7 @@ use mathlib.Core.Path.{_∙_, sym}
 use native.Mathlib.Omega.{arith}
 use borrow.Author.Needs.{needs}
 use borrow.Author.Tests.{not-true, not-false}
+use Rattle.store.specs.Turns.{below-none}
 use Rattle.store.specs.WellFormed.{no-low, no-high, no-room, no-zeroth, no-zeros, the-used}
 use Rattle.store.proofs.check_cells.Statement.{statement}
 use Rattle.store.proofs.check_cells.Tie as tie
@@ -29,7 +30,7 @@ returns-5 : tie.Need-returns-5
 returns-5 c = no-zeros _ _ (omega arith) (omega arith) (omega arith) (c .before .before .if4 .left) (sym (c .before .zero-from .ensures) ∙ not-true _ (c .if5 .taken))
 
 cells-good-requires : tie.Need-cells-good-requires
-cells-good-requires c κs = (omega arith, omega arith, omega arith, λ k. k)
+cells-good-requires c κs = (omega arith, omega arith, omega arith, λ k. k, below-none _)
 
 returns-6 : tie.Need-returns-6
 returns-6 c =

@@ -2,9 +2,8 @@
 use mathlib.Core.Path.{_∙_, refl, sym}
 use native.Mathlib.Omega.{arith}
 use borrow.Author.Needs.{needs}
-use borrow.Author.Tests.{not-true, not-false}
 use Rattle.store.specs.Survey.{keptOf}
-use Rattle.store.proofs.ByKind.{var-breaks, var-stays, var-leads, kept-str, kept-lis, atom-stays, atom-heads, fixnum-stays, bad-breaks, and-both, and-none, term-lt}
+use Rattle.store.proofs.ByKind.{kept-str, kept-lis, atom-keeps, atom-heads, fixnum-keeps, bad-breaks, and-both, and-none, term-lt}
 use Rattle.store.proofs.stands_at.Statement.{statement}
 use Rattle.store.proofs.stands_at.Tie as tie
 
@@ -14,13 +13,8 @@ kind-at-requires c κs = search needs
 enum-known-v : tie.Need-enum-known-v
 enum-known-v c = search needs
 
-term-at-requires : tie.Need-term-at-requires
-term-at-requires c κs = search needs
-
-returns : tie.Need-returns
-returns c =
-    let d = c .before .before .before in
-    var-breaks _ _ _ (d .before .before .kind-at .ensures) _ _ (d .v .given .1) _ (c .before .term-at .ensures) (not-true _ (c .if1 .taken))
+var-stands-requires : tie.Need-var-stands-requires
+var-stands-requires c κs = (omega arith, omega arith, omega arith, omega arith, sym (c .before .before .before .kind-at .ensures) ∙ c .before .v .given .1)
 
 enum-known-f : tie.Need-enum-known-f
 enum-known-f c = search needs
@@ -34,14 +28,14 @@ kept-requires c κs = search needs
 enum-known-l : tie.Need-enum-known-l
 enum-known-l c = search needs
 
-term-at-requires-2 : tie.Need-term-at-requires-2
-term-at-requires-2 c κs = search needs
+term-at-requires : tie.Need-term-at-requires
+term-at-requires c κs = search needs
 
 add-term-at : tie.Need-add-term-at
-add-term-at c = omega (arith, term-lt _ _ _ (sym (c .before .term-at2 .ensures) ∙ c .if3 .taken))
+add-term-at c = omega (arith, term-lt _ _ _ (sym (c .before .term-at .ensures) ∙ c .if1 .taken))
 
-term-at-requires-3 : tie.Need-term-at-requires-3
-term-at-requires-3 c κs = search needs
+term-at-requires-2 : tie.Need-term-at-requires-2
+term-at-requires-2 c κs = search needs
 
 kept-requires-2 : tie.Need-kept-requires-2
 kept-requires-2 c κs = search needs
@@ -55,50 +49,41 @@ enum-told c = search needs
 enum-told-2 : tie.Need-enum-told-2
 enum-told-2 c = search needs
 
+returns : tie.Need-returns
+returns c = c .var-stands .ensures
+
 returns-2 : tie.Need-returns-2
 returns-2 c =
-    let t = c .before .before in
-    let d = t .before .before in
-    var-stays _ _ _ (d .before .before .kind-at .ensures) _ _ (d .v .given .1) _ (t .term-at .ensures) (not-false _ (c .before .if1 .left)) (c .if2 .taken)
-
-returns-3 : tie.Need-returns-3
-returns-3 c =
-    let t = c .before .before in
-    let d = t .before .before in
-    var-leads _ _ _ (d .before .before .kind-at .ensures) _ _ (d .v .given .1) _ (t .term-at .ensures) (not-false _ (c .before .if1 .left))
-
-returns-4 : tie.Need-returns-4
-returns-4 c =
     let d = c .before .before .before in
     kept-str _ _ _ (d .before .before .kind-at .ensures) _ _ (d .f .given .1) _ (c .before .atom-at .ensures) _ (c .kept .ensures)
 
-returns-5 : tie.Need-returns-5
-returns-5 c =
+returns-3 : tie.Need-returns-3
+returns-3 c =
     let t = c .before .before .before in
     let d = t .before .before in
-    kept-lis _ _ _ (d .before .before .kind-at .ensures) _ _ (d .l .given .1) _ (and-both _ _ _ _ (t .term-at2 .ensures) (c .before .before .if3 .taken) (c .before .term-at3 .ensures)) _ (c .kept2 .ensures)
+    kept-lis _ _ _ (d .before .before .kind-at .ensures) _ _ (d .l .given .1) _ (and-both _ _ _ _ (t .term-at .ensures) (c .before .before .if1 .taken) (c .before .term-at2 .ensures)) _ (c .kept2 .ensures)
+
+returns-4 : tie.Need-returns-4
+unfolding keptOf
+returns-4 c =
+    let d = c .before .before .before in
+    kept-lis _ _ _ (d .before .before .kind-at .ensures) _ _ (d .l .given .1) _ (and-none _ _ _ (c .before .term-at .ensures) (c .if1 .left)) _ refl
+
+returns-5 : tie.Need-returns-5
+returns-5 c =
+    let d = c .before .before in
+    atom-keeps _ _ _ (d .before .before .kind-at .ensures) _ _ _ (d .arity .given .1) (omega arith) (c .if2 .taken)
 
 returns-6 : tie.Need-returns-6
-unfolding keptOf
 returns-6 c =
-    let d = c .before .before .before in
-    kept-lis _ _ _ (d .before .before .kind-at .ensures) _ _ (d .l .given .1) _ (and-none _ _ _ (c .before .term-at2 .ensures) (c .if3 .left)) _ refl
+    let d = c .before .before in
+    atom-heads _ _ _ (d .before .before .kind-at .ensures) _ _ _ (d .arity .given .1) (c .if2 .left)
 
 returns-7 : tie.Need-returns-7
-returns-7 c =
-    let d = c .before .before in
-    atom-stays _ _ _ (d .before .before .kind-at .ensures) _ _ _ (d .arity .given .1) (omega arith) (c .if4 .taken)
+returns-7 c = fixnum-keeps _ _ _ (c .before .before .kind-at .ensures) _ _ (c .enum-told .given .1)
 
 returns-8 : tie.Need-returns-8
-returns-8 c =
-    let d = c .before .before in
-    atom-heads _ _ _ (d .before .before .kind-at .ensures) _ _ _ (d .arity .given .1) (c .if4 .left)
-
-returns-9 : tie.Need-returns-9
-returns-9 c = fixnum-stays _ _ _ (c .before .before .kind-at .ensures) _ _ (c .enum-told .given .1)
-
-returns-10 : tie.Need-returns-10
-returns-10 c = bad-breaks _ _ _ (c .before .before .kind-at .ensures) _ (c .enum-told2 .given .1)
+returns-8 c = bad-breaks _ _ _ (c .before .before .kind-at .ensures) _ (c .enum-told2 .given .1)
 
 pub stands-at-spec : {M : Type 1} → statement M
 stands-at-spec =
@@ -106,25 +91,23 @@ stands-at-spec =
     (tie.spec
     kind-at-requires
     enum-known-v
-    term-at-requires
-    returns
+    var-stands-requires
     enum-known-f
     atom-at-requires
     kept-requires
     enum-known-l
-    term-at-requires-2
+    term-at-requires
     add-term-at
-    term-at-requires-3
+    term-at-requires-2
     kept-requires-2
     enum-known-arity
     enum-told
     enum-told-2
+    returns
     returns-2
     returns-3
     returns-4
     returns-5
     returns-6
     returns-7
-    returns-8
-    returns-9
-    returns-10)
+    returns-8)
