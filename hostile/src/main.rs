@@ -64,13 +64,13 @@ fn on_one_store(r: &mut Random, lender: &mut Lender, tally: &mut [u64; 12]) -> R
     Ok(())
 }
 
-/// A store whole or damaged, now and then a large one, or words without any sense.
+/// A store whole or damaged, now and then a large one or one of chains, or words without any sense.
 fn hostile_store(r: &mut Random) -> Store {
     if r.one_in(10) {
         return rubbish(r);
     }
     let most = if r.one_in(20) { 300 } else { 14 };
-    let whole = random::store(r, most);
+    let whole = if r.one_in(8) { random::chains(r, most) } else { random::store(r, most) };
     random::perhaps_damaged(r, whole)
 }
 

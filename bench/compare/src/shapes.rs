@@ -243,6 +243,71 @@ pub fn falling_chain(cells: usize) -> Vec<u64> {
     words
 }
 
+/// Two chains of Vars, the first up to an unbound one, the second down to one.
+pub fn chain_up_and_chain_down(cells: usize) -> Vec<u64> {
+    let mut words = rising_chain(cells / 2);
+    words.extend((cells / 2..cells).map(|at| var(at.max(cells / 2 + 1) - 1)));
+    words[cells / 2] = var(cells / 2);
+    words
+}
+
+/// One chain of Vars that swings between both ends of the store, to an unbound one in the middle.
+pub fn swinging_chain(cells: usize) -> Vec<u64> {
+    let last = cells - 1;
+    let mut words: Vec<u64> = (0..cells)
+        .map(|at| if 2 * at <= last { var(last + 1 - at) } else { var(last + 2 - at) })
+        .collect();
+    words[0] = 0;
+    words[last / 2 + 1] = var(last / 2 + 1);
+    words
+}
+
+/// One chain of Vars through all cells in random order, to an unbound one.
+pub fn shuffled_chain(cells: usize) -> Vec<u64> {
+    let mut order: Vec<usize> = (1..cells).collect();
+    let mut random: u64 = 1;
+    for i in (1..order.len()).rev() {
+        random = random.wrapping_mul(0x5851_F42D_4C95_7F2D).wrapping_add(1);
+        order.swap(i, (random >> 33) as usize % (i + 1));
+    }
+    let mut words = vec![0; cells];
+    for (i, &at) in order.iter().enumerate() {
+        words[at] = var(order[i.max(1) - 1]);
+    }
+    words
+}
+
+/// Many chains into one: teeth of eight Vars lead up into a chain that leads down.
+pub fn comb_of_chains(cells: usize) -> Vec<u64> {
+    let low = cells / 2;
+    let mut words: Vec<u64> = (0..cells).map(|at| var(at.max(low + 1) - 1)).collect();
+    for (at, word) in words.iter_mut().enumerate().take(low) {
+        *word = if at % 8 == 7 { var(low + at) } else { var(at + 1) };
+    }
+    words[0] = 0;
+    words
+}
+
+/// Links of one step, up and down in turns: each third cell is a constant that both its
+/// neighbours name.
+pub fn links_both_ways(cells: usize) -> Vec<u64> {
+    let link = |at: usize| match at % 3 {
+        1 if at + 1 < cells => var(at + 1),
+        2 => A,
+        0 if at > 0 => var(at - 1),
+        _ => NIL,
+    };
+    let mut words: Vec<u64> = (0..cells).map(link).collect();
+    words[0] = 0;
+    words
+}
+
+/// Words to append at a `top`: Vars that name the next one up, in turn with those that name an old
+/// one. There is an even number of them.
+pub fn links_to_append(top: usize, len: usize) -> Vec<u64> {
+    (0..len).map(|i| if i % 2 == 0 { var(top + i + 1) } else { var(ROOT) }).collect()
+}
+
 /// Words to append at a `top`: a list of constants.
 pub fn words_to_append(top: usize, len: usize) -> Vec<u64> {
     let pairs = (0..len.div_ceil(2)).flat_map(|i| [A, lis(top + 2 * i + 2)]);

@@ -2,6 +2,7 @@
 //! measured at every size.
 
 use trisculap_reference::calls::{Call, Store};
+use trisculap_reference::cell::var;
 use trisculap_reference::LIMIT;
 
 use crate::measure::Workload;
@@ -79,10 +80,38 @@ fn store_calls() -> Vec<Workload> {
         full("check: no chains", list, CHECK),
         full("check: one falling chain", falling_chain, CHECK),
         full("check: one rising chain", rising_chain, CHECK),
+        full("check: two chains, one up, one down", chain_up_and_chain_down, CHECK),
+        full("check: one chain, up and down in turns", swinging_chain, CHECK),
+        full("check: one chain in random order", shuffled_chain, CHECK),
+        full("check: a comb of chains", comb_of_chains, CHECK),
+        full("check: links of one step, up and down", links_both_ways, CHECK),
         full("follow: no chains", list, FOLLOW),
+        full("follow: one chain, up and down in turns", swinging_chain, FOLLOW),
+        rollback_over("rollback: a comb of chains", comb_of_chains, LIMIT),
         append("append: 1 word", 1),
         append("append: 1,000 words", 1000),
+        append_behind("append: 1,024 links behind a comb of chains", comb_of_chains, LIMIT),
     ]
+}
+
+/// A rollback that unbinds every bound Var of a store.
+fn rollback_over(name: &str, shape: Shape, lent: usize) -> Workload {
+    let mut workload = workload(name, shape, lent, lent, &[Call::Rollback(1)]);
+    let store = &mut workload.store;
+    for at in (1..store.top).filter(|&at| store.cells[at] != var(at)) {
+        store.trail[store.trail_count] = at as u64;
+        store.trail_count += 1;
+    }
+    store.marks[0] = store.top as u64;
+    store.mark_count = 1;
+    workload
+}
+
+/// An append of Vars to a store that takes three quarters of the lent cells.
+fn append_behind(name: &str, shape: Shape, lent: usize) -> Workload {
+    let used = lent - lent / 4;
+    let words = links_to_append(used, lent / 4);
+    workload(name, shape, used, lent, &[Call::Append(words)])
 }
 
 /// Here the cost of a call itself shows, and that of lending more than is used.
@@ -95,19 +124,23 @@ fn small_stores() -> Vec<Workload> {
         small("copy: f(X,a)", COPY),
         small("cyclic: f(X,a)", CYCLIC),
         small("check: f(X,a), f(7,Y)", CHECK),
+        workload("check: 8 Vars, up and down in turns", swinging_chain, 9, 16, &[CHECK]),
         small("follow: f(X,a)", FOLLOW),
         small("number", Call::Number(-1)),
     ]
 }
 
-/// A shape at every size, as powers of two up to the limit. A copy gets half of the lent cells
-/// for the term.
+/// A workload at every size of the lent cells, as powers of two up to the limit.
+fn at_every_size(make: impl Fn(usize) -> Workload) -> Vec<Workload> {
+    (6..=12).map(|power| make(1 << power)).collect()
+}
+
+/// Shapes at every size. A copy gets half of the lent cells for the term.
 pub fn growing() -> Vec<Vec<Workload>> {
-    let sizes = |name, shape: Shape, call: Call| -> Vec<Workload> {
+    let sizes = |name, shape: Shape, call: Call| {
         let share = if call == COPY { 2 } else { 1 };
         let calls = [call];
-        let lent = (6..=12).map(|power| 1 << power);
-        lent.map(|lent| workload(name, shape, lent / share, lent, &calls)).collect()
+        at_every_size(|lent| workload(name, shape, lent / share, lent, &calls))
     };
     vec![
         sizes("checked: lists, variables and constants", variables_and_constants, CHECKED),
@@ -124,6 +157,13 @@ pub fn growing() -> Vec<Vec<Workload>> {
         sizes("cyclic: deep shared term", deep_and_shared, CYCLIC),
         sizes("cyclic: wide shared term", wide_and_shared, CYCLIC),
         sizes("check: no chains", list, CHECK),
+        sizes("check: one falling chain", falling_chain, CHECK),
         sizes("check: one rising chain", rising_chain, CHECK),
+        sizes("check: two chains, one up, one down", chain_up_and_chain_down, CHECK),
+        sizes("check: one chain, up and down in turns", swinging_chain, CHECK),
+        sizes("check: a comb of chains", comb_of_chains, CHECK),
+        sizes("check: links of one step, up and down", links_both_ways, CHECK),
+        at_every_size(|lent| rollback_over("rollback: a comb of chains", comb_of_chains, lent)),
+        at_every_size(|lent| append_behind("append: links behind a comb", comb_of_chains, lent)),
     ]
 }

@@ -97,6 +97,20 @@ fn random_stores_give_the_naive_outcomes() {
     tally.expect("cyclic", &["1", "3", "no", "yes"]);
 }
 
+#[test]
+fn chains_and_rings_give_the_naive_outcomes() {
+    let mut r = Random::seeded(5);
+    let mut tally = Tally::default();
+    for round in 0..20_000 {
+        let store = random::chains(&mut r, if round % 10 == 0 { 300 } else { 12 });
+        for call in random::calls(&mut r, &store) {
+            tally.count(&call, agree(&store, &call));
+        }
+    }
+    tally.expect("check", &["1", "yes"]);
+    tally.expect("append", &["1", "7", "9", "yes"]);
+}
+
 /// Words with which a cell of a small heap may be filled.
 fn alphabet(top: usize) -> Vec<u64> {
     let cells = 1..top;

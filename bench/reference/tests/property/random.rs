@@ -82,11 +82,41 @@ fn place_headers(r: &mut Random, cells: &mut [u64], from: usize) -> Vec<usize> {
     open
 }
 
-/// A well-formed store of up to `most` cells, with trail, marks and a work buffer full of rubbish.
+/// A well-formed store of up to `most` cells.
 pub fn store(r: &mut Random, most: usize) -> Store {
-    let top = 1 + r.below(most);
-    let mut used = vec![0; top];
+    let mut used = vec![0; 1 + r.below(most)];
     fill(r, &mut used, 1);
+    lent(r, used)
+}
+
+/// A store of up to `most` cells, nearly all of them Vars, in chains that lead up and down. In half
+/// of them one more Var is made to name any cell, which may close a ring.
+pub fn chains(r: &mut Random, most: usize) -> Store {
+    let mut used = vec![0; 3 + r.below(most - 2)];
+    let mut order: Vec<usize> = (1..used.len()).collect();
+    let mixed = r.below(2 * used.len());
+    for _ in 0..mixed {
+        let (a, b) = (r.below(order.len()), r.below(order.len()));
+        order.swap(a, b);
+    }
+    // A Var names one of the few before it in this order, so that following ends.
+    let near = 1 + r.below(8);
+    for (i, &at) in order.iter().enumerate() {
+        used[at] = match r.below(20) {
+            0 => atom(r.pick(&NAMES), 0),
+            1..=17 if i > 0 => var(order[i - 1 - r.below(near.min(i))]),
+            _ => var(at),
+        };
+    }
+    if r.one_in(2) {
+        used[r.pick(&order)] = var(r.pick(&order));
+    }
+    lent(r, used)
+}
+
+/// These cells, with trail, marks and a work buffer full of rubbish.
+fn lent(r: &mut Random, mut used: Vec<u64>) -> Store {
+    let top = used.len();
     let unbound = (1..top).filter(|&at| used[at] == var(at)).count();
     let mut trail: Vec<u64> =
         (1..top as u64).filter(|&at| used[at as usize] != var(at as usize)).collect();
