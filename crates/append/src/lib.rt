@@ -1,4 +1,6 @@
 // Appending words at the end of a store's used cells.
+#![tactic(auto)]
+
 ghost use Rattle.std.specs.Prelude.{◌≡◌, ◌+◌, ◌≤◌, length};
 ghost use Rattle.store.specs.Store.{limit};
 ghost use Rattle.trail.specs.State.{state_of};

@@ -1,6 +1,8 @@
 // A cell is a 64-bit word: value in bits 0 to 55, mark bit 56, forwarding bit 57, tag 58 to 63.
 // This crate splits a word by shifts and masks, says what it means, and builds it again. It also
 // holds the refusals of every public call, and makes number cells.
+#![tactic(auto)]
+
 ghost use Rattle.std.specs.Prelude.{◌≡◌, ◌+◌, ◌*◌, ◌^◌, ◌<◌, length, get_or};
 ghost use Rattle.cell.specs.Word.{tag_of, forward_of, mark_of, value_of, name_of, arity_of, spare_of, arity_bits, word_of, var_word};
 ghost use Rattle.cell.specs.Fixnum.{to_number};

@@ -1,4 +1,6 @@
 // A set of cells: a table with a bit for each, in words of 64. A cell that is noted is in the set.
+#![tactic(auto)]
+
 ghost use Rattle.std.specs.Prelude.{◌≡◌, ◌*◌, ◌<◌, eqb, length};
 ghost use Rattle.cell_set.specs.Table.{bit_at, noting};
 

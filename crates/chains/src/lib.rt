@@ -1,6 +1,8 @@
 // Following along chains of Vars with shortcuts: a part of the work buffer remembers, for each used
 // cell, a cell further along its chain, so that many cells that lead into one long chain are followed
 // in near-linear time in all. Also how many words of that buffer a call wants, and their clearing.
+#![tactic(auto)]
+
 ghost use Rattle.std.specs.Prelude.{◌≡◌, ◌<◌, ◌≤◌, length};
 ghost use Rattle.store.specs.Store.{limit, end_of};
 ghost use Rattle.chains.specs.Chains.{Chained, Onward, Hops, Hopped};

@@ -1,5 +1,7 @@
 // Classes of cells, in a part of a lent buffer: a parent word for each of the first `top` cells, never
 // above the cell itself. A cell that is its own parent names its class.
+#![tactic(auto)]
+
 ghost use Rattle.std.specs.Prelude.{◌≡◌, ◌<◌, ◌≤◌, length};
 ghost use Rattle.classes.specs.Forest.{Lower, Root};
 ghost use Rattle.classes.specs.Classes.{Found, Joined, Apart};

@@ -1,5 +1,7 @@
 // The copy of a term into the free part of the store: new cells from `top` on, scanned upwards, with
 // tables in the work buffer of what was copied already.
+#![tactic(auto)]
+
 ghost use Rattle.std.specs.Prelude.{◌≡◌, true, ℕ, ◌+◌, ◌<◌, ◌≤◌, leb, length, get_or, set};
 ghost use Rattle.cell.specs.declared.Kind.TheVariants.{Var, Str, Lis};
 ghost use Rattle.store.specs.Store.{limit, term_at, WellFormed, end_of};

@@ -1,6 +1,8 @@
 // The cycle verdict, and the other answers that one depth-first walk over the links of a
 // well-formed store gives: whether either of two roots reaches a cycle, and the room of a copy; and a
 // bound on that room that takes no walk.
+#![tactic(auto)]
+
 ghost use Rattle.std.specs.Prelude.{◌≡◌, true, ◌||◌, ◌+◌, ◌-◌, ◌<◌, ◌≤◌, leb, length, get_or, replicate};
 ghost use Rattle.store.specs.Store.{limit, term_at, WellFormed};
 ghost use Rattle.cycle.specs.Kids.{arity_at, head, pair};

@@ -1,6 +1,8 @@
 // The public calls, as firmware links them: `include/trisculap.h` declares each for C. A call returns
 // 0 where it answers and the number of the refusal where it refuses. Each contract says the returned
 // number, the answer and every lent word by the definition that the inner call is proved against.
+#![tactic(auto)]
+
 ghost use Rattle.std.specs.Prelude.{◌≡◌};
 ghost use Rattle.cell.specs.Answers.{number_cell};
 ghost use Rattle.store.specs.Follow.{followed};

@@ -1,4 +1,6 @@
 // Marks on a store: set one, roll back to one, cut those above one.
+#![tactic(auto)]
+
 ghost use Rattle.std.specs.Prelude.{◌≡◌, true, ℕ, ◌+◌, ◌-◌, ◌*◌, ◌/◌, ◌<◌, ◌≤◌, length, replicate};
 ghost use Rattle.store.specs.Store.{limit};
 ghost use Rattle.trail.specs.State.{state_of, said};

@@ -1,1 +1,3 @@
 // No code: the history of a store and what replaying it gives.
+#![tactic(auto)]
+

@@ -1,16 +1,12 @@
 -- What each arm of a match on a cell's kind tells: of a step from the cell, and of how it stands to its row.
 use mathlib.Core.Path.{◌≡◌, refl, sym, ap, subst, ◌∙◌}
 use mathlib.Core.Bool.{Bool, true, false, ◌&&◌, false≢true}
-use mathlib.Core.List.{List, [], ◌∷◌}
-use mathlib.Core.Logic.{inl, inr}
+use mathlib.Core.List.{List}
 use Prim.Native.Nat.{ℕ, ◌+◌, ◌<◌, ◌≤◌}
 use lib.IntN.{ℤ}
 use lib.Dec.{leb, ltb}
 use borrow.Author.Tests.{ltb-true, le-leb, lt-ltb}
 use native.Mathlib.Omega.{arith}
-use types.Run.{OneOf}
-use denote.Enum.Declared.{tag_of}
-use Rattle.cell.specs.contracts.Kind.{the_type}
 use Rattle.cell.specs.declared.Kind.{Kind}
 use Rattle.cell.specs.declared.Kind.TheVariants.{Var, Str, Lis, Atom, Fixnum, Bad}
 use Rattle.store.specs.All.{all_from}
@@ -20,16 +16,9 @@ use Rattle.store.specs.Turns.{turns_at, no_turn}
 use Rattle.store.specs.Survey.{kept_of, Stands, StandsAt}
 use Rattle.store.specs.Store.{kind_at, is_header, no_header, term_at, atom_at, run_at, keeps, step, step_kind}
 
-zeroth : OneOf (1 ∷ 2 ∷ 3 ∷ 4 ∷ 5 ∷ []) 0 → ⊥
-zeroth (inl e) = omega arith
-zeroth (inr (inl e)) = omega arith
-zeroth (inr (inr (inl e))) = omega arith
-zeroth (inr (inr (inr (inl e)))) = omega arith
-zeroth (inr (inr (inr (inr e)))) = omega arith
-
-pub stays : (i : ℕ) (k : Kind) → OneOf (1 ∷ 2 ∷ 3 ∷ 4 ∷ 5 ∷ []) (tag_of the_type k) → i ≡ step_kind i k
+pub stays : (i : ℕ) (k : Kind) → ((v : ℕ) → k ≡ Var v → ⊥) → i ≡ step_kind i k
 unfolding step_kind
-stays i (Var v) h = absurd (zeroth h)
+stays i (Var v) h = absurd (h v refl)
 stays i (Str v) h = refl
 stays i (Lis v) h = refl
 stays i (Atom n a) h = refl
@@ -37,7 +26,7 @@ stays i (Fixnum z) h = refl
 stays i Bad h = refl
 
 module _ (s : List ℕ) (i : ℕ) (k : Kind) (is : k ≡ kind_at s i) where
-  pub step_stays : OneOf (1 ∷ 2 ∷ 3 ∷ 4 ∷ 5 ∷ []) (tag_of the_type k) → i ≡ step s i
+  pub step_stays : ((v : ℕ) → k ≡ Var v → ⊥) → i ≡ step s i
   unfolding step
   step_stays h = stays i k h ∙ ap (step_kind i) is
 

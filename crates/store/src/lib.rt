@@ -1,4 +1,6 @@
 // A store's cells: whether any words at all are well formed, and following a cell along Vars.
+#![tactic(auto)]
+
 ghost use Rattle.std.specs.Prelude.{◌≡◌, true, ◌&&◌, ℕ, ◌+◌, ◌<◌, ◌≤◌, length, get_or};
 ghost use Rattle.cell.specs.Kinds.{kind_of};
 ghost use Rattle.cell.specs.declared.Kind.TheVariants.{Var};

@@ -1,5 +1,7 @@
 // Reads little-endian words from standard input, takes their number as `top`, and prints whether they
 // are a well-formed store.
+#![tactic(auto)]
+
 ghost use Rattle.std.specs.Prelude.{◌≡◌, ℕ, ◌+◌, ◌*◌, ◌^◌, ◌<◌, ◌≤◌, length, get_or};
 ghost use Rattle.storecheck.specs.Little.{half_at, word_at};
 

@@ -1,5 +1,7 @@
 // The trail and the marks beside a store's cells: their rules, and the store check, which every call
 // that is lent them makes first.
+#![tactic(auto)]
+
 ghost use Rattle.std.specs.Prelude.{◌≡◌, ◌≤◌, length};
 ghost use Rattle.store.specs.Store.{limit};
 ghost use Rattle.trail.specs.Rules.{names_bound, trail_used, trail_good, marks_good, rises};

@@ -1,5 +1,7 @@
 // What the trial programs print: names, numbers, answers and all lent words. A trial program runs the
 // calls on real words and prints what they answer and leave; its file `stdout` says what that must be.
+#![tactic(auto)]
+
 use libc::STDOUT_FILENO;
 
 // The words that the trials are made of: a tag to add a cell number to, and atoms with their arity.

@@ -1,5 +1,7 @@
 // Runs the copy on the bench heaps, on shared, overlapping and cyclic terms, with just enough room
 // and with too little, and prints the answer, all cells and how much of the work buffer is 0.
+#![tactic(auto)]
+
 use trial::{A, F_2, FIXNUM, G_1, LIS, NIL, STR, VAR, line, number, say};
 
 fn copy_in(name: &[u8], cells: &mut [u64], top: usize, work: &mut [u64], root: usize) {

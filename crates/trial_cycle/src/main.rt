@@ -1,5 +1,7 @@
 // Runs the cycle verdict on cycles through each position, on shared and overlapping terms, and on
 // stores as large as they get.
+#![tactic(auto)]
+
 ghost use Rattle.std.specs.Prelude.{◌+◌, ◌*◌, ◌<◌};
 ghost use Rattle.store.specs.Store.{limit};
 

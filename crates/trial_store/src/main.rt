@@ -1,5 +1,7 @@
 // Runs the calls of the ground floor on the bench lines and on damaged stores, and prints what they
 // answer and leave.
+#![tactic(auto)]
+
 mod books;
 mod cells;
 mod chains;

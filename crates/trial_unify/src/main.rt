@@ -1,5 +1,7 @@
 // Runs plain and checked unification on the bench heaps and the kinds of cells, in both orders of the
 // roots; on cyclic, doubling, overlapping and chained terms as large as they get; and on each refusal.
+#![tactic(auto)]
+
 mod calls;
 mod heaps;
 mod large;

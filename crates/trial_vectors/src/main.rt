@@ -2,6 +2,8 @@
 // what it answers, and the cells and the trail after it, as hexadecimal numbers:
 //   CALL A B ANSWER TOP cells.. NEW-TOP cells.. ENTRIES trail..
 // CALL is 1 plain, 2 checked, 3 copy, 4 cyclic; cell 0 is left out of the cells; 0 ends the list.
+#![tactic(auto)]
+
 ghost use Rattle.std.specs.Prelude.{◌≤◌};
 
 use libc::STDIN_FILENO;

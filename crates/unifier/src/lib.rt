@@ -1,5 +1,7 @@
 // Unification of two cells' terms, plain and checked, of any words, counts and roots: the refusals
 // first, then one run, and after "no unifier" everything as it was.
+#![tactic(auto)]
+
 ghost use Rattle.std.specs.Prelude.{◌≡◌, true, not, ◌&&◌, ℕ, ◌-◌, ◌<◌, ◌≤◌, leb, length, get_or};
 ghost use Rattle.store.specs.Store.{limit, kind_at, term_at, WellFormed};
 ghost use Rattle.store.specs.Zeros.{zeroed};

@@ -1,6 +1,8 @@
 // Plain unification past the refusals. Pairs of cells are taken from a list, the last in first, until
 // none is left or two clash. The work buffer has a word for the class of each used cell, then a word
 // for a shortcut along Vars from each, and then the pairs, two words a pair.
+#![tactic(auto)]
+
 ghost use Rattle.std.specs.Prelude.{◌≡◌, [], ◌∷◌, ℕ, suc, ◌+◌, ◌^◌, ◌<◌, ◌≤◌, length, get_or, set};
 ghost use Rattle.cell.specs.declared.Kind.TheVariants.{Var, Str, Lis, Atom, Fixnum};
 ghost use Rattle.store.specs.Store.{limit, kind_at, end_of};

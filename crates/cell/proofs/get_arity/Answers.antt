@@ -1,0 +1,7 @@
+-- `cell::get_arity` meets its contract: a mask of ones is a remainder.
+use Prim.Native.Nat.{◌/◌, ◌^◌}
+use lib.Bits.{and_mask}
+use Rattle.cell.proofs.get_arity.Goals as goal
+
+pub returns : goal.returns
+returns c = and_mask (c.args.w / 2 ^ 32) 8

@@ -1,0 +1,41 @@
+use mathlib.Core.Path.{◌∙◌, refl, sym}
+use native.Mathlib.Omega.{arith}
+use Rattle.store.specs.Survey.{kept_of}
+use Rattle.store.proofs.ByKind.{kept_str, kept_lis, atom_keeps, atom_heads, fixnum_keeps, bad_breaks, and_both, and_none, term_lt}
+use Rattle.store.proofs.stands_at.Goals as goal
+
+pub var_stands-requires : goal.var_stands-requires
+var_stands-requires c = (omega arith, omega arith, omega arith, omega arith, sym c.kind_at.ensures ∙ c.in-Var.is)
+
+pub overflow_add-l : goal.overflow_add-l
+overflow_add-l c = omega (arith, term_lt _ _ _ (sym c.term_at.ensures ∙ c.if-term_at.true))
+
+pub returns-in-Var : goal.returns-in-Var
+returns-in-Var c = c.var_stands.ensures
+
+pub returns-in-Str : goal.returns-in-Str
+returns-in-Str c =
+    kept_str _ _ _ c.kind_at.ensures _ _ c.in-Str.is _ c.atom_at.ensures _ c.kept.ensures
+
+pub returns-then-term_at : goal.returns-then-term_at
+returns-then-term_at c =
+    kept_lis _ _ _ c.kind_at.ensures _ _ c.in-Lis.is _ (and_both _ _ _ _ c.term_at.ensures c.if-term_at.true c.term_at-then-term_at.ensures) _ c.kept-then-term_at.ensures
+
+pub returns-else-term_at : goal.returns-else-term_at
+unfolding kept_of
+returns-else-term_at c =
+    kept_lis _ _ _ c.kind_at.ensures _ _ c.in-Lis.is _ (and_none _ _ _ c.term_at.ensures c.if-term_at.false) _ refl
+
+pub returns-then-arity-eq0 : goal.returns-then-arity-eq0
+returns-then-arity-eq0 c =
+    atom_keeps _ _ _ c.kind_at.ensures _ _ _ c.in-Atom.is (omega arith) c.if-arity-eq0.true
+
+pub returns-else-arity-eq0 : goal.returns-else-arity-eq0
+returns-else-arity-eq0 c =
+    atom_heads _ _ _ c.kind_at.ensures _ _ _ c.in-Atom.is c.if-arity-eq0.false
+
+pub returns-in-Fixnum : goal.returns-in-Fixnum
+returns-in-Fixnum c = fixnum_keeps _ _ _ c.kind_at.ensures _ _ c.in-Fixnum.is
+
+pub returns-in-Bad : goal.returns-in-Bad
+returns-in-Bad c = bad_breaks _ _ _ c.kind_at.ensures _ c.in-Bad.is

@@ -1,0 +1,41 @@
+use mathlib.Core.Path.{◌∙◌, sym, ap, subst}
+use mathlib.Core.Bool.{false≢true}
+use Prim.Native.Nat.{◌<◌, ◌≤◌}
+use native.Mathlib.Omega.{arith}
+use borrow.Author.Tests.{eqb-true}
+use Rattle.store.specs.Store.{Ends}
+use Rattle.store.specs.Steps.{next_used}
+use Rattle.store.specs.Ends.{ends_back}
+use Rattle.store.specs.Turns.{turns_at, turns_higher}
+use Rattle.store.specs.Walk.{settled, settled_found}
+use Rattle.store.proofs.turn_ends.Goals as goal
+use Rattle.store.proofs.turn_ends.Goals.{After-step_of-v}
+
+-- the cell that `i` names is a used one
+used : (c : After-step_of-v) → (1 ≤ c.step_of-v.result) × (c.step_of-v.result < c.args.top)
+used c = let p = c.requires in next_used _ _ p.5 (omega arith) p.2 c.step_of-v.ensures
+
+pub turns_at-requires : goal.turns_at-requires
+turns_at-requires c = let u = (used c).1 in omega arith
+
+pub returns-then-not-turns_at : goal.returns-then-not-turns_at
+returns-then-not-turns_at c =
+    settled _ _ _ _ (λ t. absurd (false≢true (sym c.if-not-turns_at.true ∙ c.turns_at.ensures ∙ ap (turns_at _ _) c.step_of-v.ensures ∙ t))) c.requires.7
+
+pub is_noted-requires : goal.is_noted-requires
+is_noted-requires c = let u = (used (goal.at.is_noted-requires c).After-step_of-v).1 in let l = c.requires.7.long in omega arith
+
+pub returns-then-is_noted : goal.returns-then-is_noted
+returns-then-is_noted c =
+    let k = c.requires.7 in
+    settled _ _ _ _ (λ _. ends_back _ _ (subst (Ends _) c.step_of-v.ensures (k.noted _ (eqb-true _ _ (sym c.is_noted.ensures ∙ c.if-is_noted.true))))) k
+
+pub chain_ends-requires : goal.chain_ends-requires
+chain_ends-requires c =
+    let p = c.requires in
+    ((used (goal.at.chain_ends-requires c).After-step_of-v).0, (used (goal.at.chain_ends-requires c).After-step_of-v).1, p.3, p.4, p.5, p.6, p.7)
+
+pub returns : goal.returns
+returns c =
+    let h = turns_higher _ _ _ (sym c.turns_at.ensures ∙ c.if-not-turns_at.false) in
+    settled_found _ _ _ _ c.step_of-v.ensures (omega arith) (used (goal.at.returns c).After-step_of-v).1 _ c.chain_ends.ensures
