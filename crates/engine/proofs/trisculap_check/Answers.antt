@@ -1,0 +1,7 @@
+use Rattle.engine.specs.Coded.{code_of}
+use Rattle.trail.specs.State.{said}
+use mathlib.Core.Path.{ap, ◌∙◌}
+use Rattle.engine.proofs.trisculap_check.Goals as goal
+
+pub returns : goal.returns
+returns c = c.code.ensures ∙ ap (λ a. code_of (said a)) c.check.ensures
