@@ -1,81 +1,67 @@
 -- The bench heaps P1 to P10, proved together as a single table. A row has its name, every lent word before the call, the call, what it answers, and every lent word after it; P2 and P3 go on with the words that P1 leaves.
-use Rattle.std.specs.Prelude.{◌≡◌, refl, true, List, [], ◌∷◌, ◌++◌, map, ℕ, ◌+◌, ◌-◌, pos, length, replicate}
+use Rattle.std.specs.Prelude.{List, [], ◌∷◌, ◌++◌, map, ℕ, ◌+◌, ◌-◌, pos, length, replicate}
 use Prim.Native.String.{String}
-use Rattle.cell.specs.Kinds.{kind_of, by_tag, word_of_kind}
-use Rattle.cell.specs.Fixnum.{of_number}
+use Rattle.cell.specs.Kinds.{word_of_kind}
 use Rattle.cell.specs.declared.Kind.{Kind}
 use Rattle.cell.specs.declared.Kind.TheVariants.{Var, Str, Lis, Atom, Fixnum}
-use Rattle.store.specs.All.{all_from}
-use Rattle.store.specs.Store.{is_header, is_atom, term_at, atom_at, run_at, keeps, step, step_kind, steps, ends_at, zero_from, cells_keep, cells_end, well_formed}
-use Rattle.trail.specs.Rules.{names_bound, entry_new, trail_used, trail_good, marks_good}
-use Rattle.trail.specs.State.{state_of, check_of}
-use Rattle.cycle.specs.Some.{some_below}
-use Rattle.cycle.specs.Sum.{sum_from}
-use Rattle.cycle.specs.Kids.{arity_kind, arity_at, deg_kind, deg, kid_kind, kid, head_kind, head, pair_kind, pair}
-use Rattle.cycle.specs.Verdict.{paths, cyclic_at, verdict_of}
-use Rattle.cycle.specs.Room.{reaches, str_reached, lis_reached, run_room, room_from, room_by, room_of}
-use Rattle.terms.specs.View.{str_view, view_kind, fun_kind, behind}
-use Rattle.chains.specs.Work.{work_need, cleared}
-use Rattle.unification.specs.Machine.{same_constant, same_fun, rule, args, act_of, is_compound, stopped, unified}
+use Rattle.trail.specs.State.{state_of}
+use Rattle.chains.specs.Work.{work_need}
 use Rattle.unification.specs.Machine as Machine
-use Rattle.unification.specs.Calls.{unbound, plain_check, checked_check, answered, plainly, checkedly}
-use Rattle.copy.specs.Rules.{end_kind, end_word, copy_run, homed, put, act, scanned, scan, copied}
 use Rattle.copy.specs.Rules as Rules
-use Rattle.copy.specs.Calls.{copying}
 use Rattle.histories.specs.Calls.{Lent, lent}
-use Rattle.bench_heaps.specs.Row.{plain, checked, copy, cycle, Answer, Yes, No, At, Refusal, Row, row, AllSay, same_answer, all_pass, rows_true}
+use Rattle.bench_heaps.specs.Row.{plain, checked, copy, cycle, Answer, Yes, No, At, Refusal, Row, row}
 
 -- ---- atoms and functors, by their names' code points
-abbrev a : Kind
+abbrev pub a : Kind
 a = Atom 97 0
 
-abbrev nil : Kind
+abbrev pub nil : Kind
 nil = Atom 1_114_112 0
 
-abbrev dot/2 : Kind
+abbrev pub dot/2 : Kind
 dot/2 = Atom 46 2
 
-abbrev f/2 : Kind
+abbrev pub f/2 : Kind
 f/2 = Atom 102 2
 
-abbrev g/1 : Kind
+abbrev pub g/1 : Kind
 g/1 = Atom 103 1
 
-abbrev h/2 : Kind
+abbrev pub h/2 : Kind
 h/2 = Atom 104 2
 
 -- ---- heaps, from cell 1 on
 -- B
-abbrev B : List Kind
+abbrev pub B : List Kind
 B = Str 2 ∷ g/1 ∷ Var 3 ∷ []
 
 -- P10: both arguments name one pair
-abbrev pairs : List Kind
+abbrev pub pairs : List Kind
 pairs = Str 2 ∷ h/2 ∷ Lis 5 ∷ Lis 5 ∷ a ∷ nil ∷ []
 
 -- ---- what is lent
 -- the word 0, the heap and `free` free cells; these entries in a trail of two words; two mark words and no mark; and the work words
-abbrev store : List Kind → ℕ → List ℕ → List ℕ → Lent
+abbrev pub store : List Kind → ℕ → List ℕ → List ℕ → Lent
 store heap free entries work =
     lent
     (state_of (0 ∷ map word_of_kind heap ++ replicate free 0) (1 + length heap) (entries ++ replicate (2 - length entries) 0) (length entries) (replicate 2 0) 0)
     work
 
 -- as many work words as a call wants, 12 x `top`, and one more, all 5
-abbrev fives : ℕ → List ℕ
+abbrev pub fives : ℕ → List ℕ
 fives top = replicate (work_need top + 1) 5
 
 -- those that a call wants are 0, and the rest is unchanged
-abbrev zeros : ℕ → List ℕ
+abbrev pub zeros : ℕ → List ℕ
 zeros top = replicate (work_need top) 0 ++ 5 ∷ []
 
 -- after P1: cell 3 is Str 2, and the trail has 3
-abbrev after_p1 : Lent
+abbrev pub after_p1 : Lent
 after_p1 = store (Str 2 ∷ g/1 ∷ Str 2 ∷ []) 0 (3 ∷ []) (zeros 4)
 
 -- ---- the table
 -- a row for plain and a row for checked unification, where both are meant
-abbrev alike : String → Lent → ℕ → ℕ → Answer → Lent → List Row
+abbrev pub alike : String → Lent → ℕ → ℕ → Answer → Lent → List Row
 alike name before x y answer after = row name before (plain x y) answer after ∷ row name before (checked x y) answer after ∷ []
 
 -- P1 to P10, in order
@@ -99,12 +85,3 @@ table =
     ++ alike "P9" (store (Str 2 ∷ a ∷ a ∷ []) 0 [] (fives 4)) 1 3 Yes (store (Str 2 ∷ a ∷ a ∷ []) 0 [] (zeros 4))
     ++ row "P10" (store pairs 6 [] (fives 7)) (copy 1) (At 7) (store (pairs ++ Str 8 ∷ h/2 ∷ Lis 11 ∷ Lis 11 ∷ a ∷ nil ∷ []) 0 [] (zeros 7))
     ∷ []
-
--- all rows are computed and compared, word for word
-tested : all_pass table ≡ true
-unfolding table word_of_kind kind_of by_tag of_number all_from is_header is_atom term_at atom_at run_at keeps step step_kind steps ends_at zero_from cells_keep cells_end well_formed names_bound entry_new trail_used trail_good marks_good check_of some_below sum_from arity_kind arity_at deg_kind deg kid_kind kid head_kind head pair_kind pair paths cyclic_at verdict_of reaches str_reached lis_reached run_room room_from room_by room_of str_view view_kind fun_kind behind same_constant same_fun rule args act_of is_compound stopped Machine.run unified unbound cleared plain_check checked_check answered plainly checkedly copying copied scan scanned act Rules.run homed put copy_run end_word end_kind same_answer all_pass
-tested = refl
-
--- each row: what the call answers, and every lent word after it
-pub bench : AllSay table
-bench = rows_true table tested

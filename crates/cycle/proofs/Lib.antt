@@ -3,3 +3,5 @@ mod ByKind
 mod Count
 mod Walking
 mod Going
+-- No copy needs more room than the most.
+pub mod Most

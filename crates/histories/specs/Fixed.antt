@@ -18,7 +18,7 @@ use Rattle.replay.specs.History.{Call, append, mark, unify, copy, cut, rollback,
 use Rattle.replay.specs.Law.{Obeys, Lawful}
 use Rattle.replay.specs.Grown.{by_bool, append_obeys}
 use Rattle.replay.specs.Ext.{noted_length}
-use Rattle.replay.specs.Theorem.{run_holds}
+use Rattle.replay.proofs.Theorem.{run_holds}
 use Rattle.histories.specs.Calls.{Lengths}
 
 -- the cells, the trail and the marks have these lengths

@@ -3,6 +3,4 @@ pub mod Calls
 pub mod Demand3
 -- Why it holds: only the length of the work buffer counts, unify and copy obey the law of a replay, and lengths are kept.
 pub mod Work
-pub mod Obeyed
 pub mod Fixed
-pub mod Example

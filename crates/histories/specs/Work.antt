@@ -13,7 +13,7 @@ use Rattle.cycle.specs.Room.{room_of}
 use Rattle.chains.specs.Work.{work_need}
 use Rattle.unification.specs.Machine.{Ending, yes, clashes, occurs, late, unified}
 use Rattle.unification.specs.Calls.{unbound, plain_check, checked_check, answered, unless_refused, plainly, checkedly}
-use Rattle.unification.specs.Asked.{asked, checked_asked}
+use Rattle.unification.proofs.Asked.{asked, checked_asked}
 use Rattle.chains.specs.Cleared.{cleared_long}
 use Rattle.copy.specs.Calls as Copy
 use Rattle.replay.specs.History.{Call, append, mark, unify, copy, cut, rollback, Trace, start, ◌▸◌, Engine, step, run, history}

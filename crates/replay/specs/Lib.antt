@@ -2,11 +2,8 @@
 pub mod History
 pub mod Law
 pub mod Promise
--- The proof.
+-- What the proof stands on.
 pub mod Kept
 pub mod Ext
 pub mod Grown
 pub mod Keeps
-pub mod Theorem
--- The striking rule on small histories.
-pub mod Example

@@ -17,7 +17,6 @@ pub mod Occurs
 pub mod Live
 pub mod Standing
 -- What a whole run keeps.
-pub mod Sound
 pub mod Agreement
 pub mod FiniteTerms
 pub mod TermOf
@@ -27,5 +26,3 @@ pub mod Flat
 -- What the calls promise.
 pub mod Asked
 pub mod Theorems
--- The bench heaps.
-pub mod Bench

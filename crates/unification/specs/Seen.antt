@@ -1,6 +1,6 @@
 -- What a machine shows, without its words: the view of each cell, the classes and the pairs; and what each act does to it. The laws of unification are proved of this.
-use Rattle.std.specs.Prelude.{◌≡◌, refl, Bool, true, false, cond, List, [], ◌∷◌, ◌++◌, ℕ, zero, suc, ◌+◌, ◌<◌, ◌≤◌, eqb}
-use Rattle.std.proofs.Common.{ap, arith, eq-eqb, ne_eqb}
+use Rattle.std.specs.Prelude.{◌≡◌, refl, Bool, true, false, cond, List, [], ◌∷◌, ◌++◌, ℕ, ◌+◌, eqb}
+use Rattle.std.proofs.Common.{ap, eq-eqb, ne_eqb}
 use Rattle.terms.specs.View.{View, free, con, nod, Shape, arity_of, look_at}
 use Rattle.unification.specs.Machine.{Act, skip, bind, join, clash, Machine, merge, args}
 
@@ -40,13 +40,6 @@ All R (p ∷ ps) = R p.0 p.1 × All R ps
 pub all_map : (R Q : ℕ → ℕ → Type 0) → ((i j : ℕ) → R i j → Q i j) → (S : List (ℕ × ℕ)) → All R S → All Q S
 all_map R Q f [] h = h
 all_map R Q f (p ∷ S) h = (f p.0 p.1 h.0, all_map R Q f S h.1)
-
--- all pairs of the arguments of two nodes
-pub all_args : (R : ℕ → ℕ → Type 0) (sh : Shape) (n m : ℕ) (S : List (ℕ × ℕ)) (a k : ℕ) → ((j : ℕ) → k ≤ j → j < k + a → R (sh.arg n j) (sh.arg m j)) → All R S → All R (args sh n m a k ++ S)
-unfolding args
-all_args R sh n m S zero k f h = h
-all_args R sh n m S (suc a) k f h =
-    (f k (omega arith) (omega arith), all_args R sh n m S a (suc k) (λ j p q. f j (omega arith) (omega arith)) h)
 
 -- what a binding does to the view of the variable, and to any other
 pub put_here : (v : ℕ) (x y : View) → y ≡ free v → put v x y ≡ x

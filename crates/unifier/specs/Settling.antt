@@ -20,10 +20,12 @@ use Rattle.unification.specs.Machine.{Ending, yes, clashes, occurs, late, unifie
 use Rattle.unification.specs.Calls.{Result, answered, plain_check, plainly, checkedly}
 use Rattle.unification.specs.Nodes.{term_shape}
 use Rattle.unification.specs.TermOf.{finite}
-use Rattle.unification.specs.PlainThenTest.{live_end}
-use Rattle.unification.specs.Flat.{bound_flat, flat_straight}
-use Rattle.unification.specs.Asked.{Asked, asks, checked_asks, asked_store, asked_live, plain_says, checked_says, answered_yes, answered_no}
-use Rattle.unification.specs.Theorems.{plain_then_yes, plain_then_cycle, plain_then_no}
+use Rattle.unification.proofs.PlainThenTest.{live_end}
+use Rattle.unification.specs.Flat.{bound_flat}
+use Rattle.unification.proofs.Flat.{flat_straight}
+use Rattle.unification.specs.Asked.{Asked}
+use Rattle.unification.proofs.Asked.{asks, checked_asks, asked_store, asked_live, plain_says, checked_says, answered_yes, answered_no}
+use Rattle.unification.proofs.Theorems.{plain_then_yes, plain_then_cycle, plain_then_no}
 use Rattle.unify.specs.Internal.{lent, Begins, Ended, Left}
 use Rattle.unifier.specs.Undone.{new_names, cells_back, trail_back, rest_kept}
 

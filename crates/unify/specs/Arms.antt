@@ -15,7 +15,8 @@ use Rattle.cycle.specs.Kids.{arity_at, str_atom, lis_terms}
 use Rattle.terms.specs.View.{Constant, atom, number, View, free, con, nod, Shape, str_view, view_kind, dot, fun_kind, behind, shape_of}
 use Rattle.terms.specs.Shows.{flat}
 use Rattle.unification.specs.Machine.{bind, rule}
-use Rattle.unification.specs.Cases.{Apart, cc, cn, nc, nn, higher_bound}
+use Rattle.unification.specs.Cases.{Apart, cc, cn, nc, nn}
+use Rattle.unification.proofs.Cases.{higher_bound}
 use Rattle.unification.specs.Nodes.{free_var}
 use Rattle.unify.specs.declared.Act.{Act}
 use Rattle.unify.specs.Decided.{Two, AtomCell, is_dot, atom_named, Binding, Nodes, Decided}

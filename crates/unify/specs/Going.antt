@@ -12,12 +12,14 @@ use Rattle.chains.specs.Chains.{Hops}
 use Rattle.chains.specs.Bind.{hops_bind}
 use Rattle.classes.specs.Classes.{Classes}
 use Rattle.unification.specs.Machine.{same_constant, same_fun, Act, skip, bind, join, clash, rule, Machine, clashes, merge, args, other, view_at, act_of, run, fuel, unified}
-use Rattle.unification.specs.Cases.{constant_true, fun_true, fun_same, Apart, cc, cn, nc, nn, rule_same, act_is}
+use Rattle.unification.specs.Cases.{Apart, cc, cn, nc, nn}
+use Rattle.unification.proofs.Cases.{constant_true, fun_true, fun_same, rule_same, act_is}
 use Rattle.unification.specs.Nodes.{node_args, node_lt}
 use Rattle.unification.specs.Write.{Bindable, word_v}
-use Rattle.unification.specs.Weight.{length_args}
+use Rattle.unification.proofs.Weight.{length_args}
 use Rattle.unification.specs.Wrote.{Wrote, entry_free}
-use Rattle.unification.specs.Live.{Live, not_stopped, to, term_a, term_b, CaseHere, case_here, bound, live_step, turn_skip, turn_join, turn_clash, turn_bind}
+use Rattle.unification.specs.Live.{Live}
+use Rattle.unification.proofs.Live.{not_stopped, to, term_a, term_b, CaseHere, case_here, bound, live_step, turn_skip, turn_join, turn_clash, turn_bind}
 use Rattle.unify.specs.declared.Act.{Act as Deed}
 use Rattle.unify.specs.declared.Act.TheVariants.{Skip, Bind, Join, Clash}
 use Rattle.unify.specs.Internal.{lent}

@@ -9,7 +9,8 @@ use Rattle.chains.specs.Work.{work_need}
 use Rattle.classes.specs.Forest.{Lower, Root, here, up, names_own, root_below}
 use Rattle.classes.specs.Classes.{Classes, Keeps, Tied, same, left, right, Joins, Found, Joined, classes_kept, names_kept}
 use Rattle.unification.specs.Machine.{merge}
-use Rattle.unification.specs.Weight.{Merged, merged, merge_ends}
+use Rattle.unification.specs.Weight.{Merged}
+use Rattle.unification.proofs.Weight.{merged, merge_ends}
 use Rattle.unification.specs.Sums.{sum_drop}
 use Rattle.unify.specs.Layout.{pair_place, standing, standing_same, row, Grown}
 

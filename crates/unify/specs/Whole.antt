@@ -5,7 +5,8 @@ use Rattle.chains.specs.Hops.{hops_none}
 use Rattle.chains.specs.Work.{work_need}
 use Rattle.classes.specs.Classes.{Classes, Apart}
 use Rattle.unification.specs.Machine.{run, start, fuel, unified}
-use Rattle.unification.specs.Live.{Live, live_start, live_done}
+use Rattle.unification.specs.Live.{Live}
+use Rattle.unification.proofs.Live.{live_start, live_done}
 use Rattle.unify.specs.Internal.{lent, Begins, Left}
 use Rattle.unify.specs.Layout.{hops_of, pair_place, standing, Grown, Forgot}
 use Rattle.unify.specs.Joining.{classes_near}

@@ -1,6 +1,6 @@
 use mathlib.Core.Path.{◌∙◌}
 use borrow.Author.Tests.{le-leb}
-use Rattle.cycle.specs.Most.{most_enough}
+use Rattle.cycle.proofs.Most.{most_enough}
 use Rattle.copy.specs.Copying.{fewer_fit}
 use Rattle.copy.proofs.copy_fits.Goals as goal
 

@@ -4,7 +4,7 @@ use Rattle.cell.specs.declared.Refusal.TheVariants.{Cycle}
 use Rattle.trail.specs.declared.Answer.TheVariants.{Done}
 use Rattle.trail.specs.State.{state_of, need}
 use Rattle.unification.specs.Calls.{plain_check, checked_check}
-use Rattle.unification.specs.Asked.{asked, asked_store, refuses_plain}
+use Rattle.unification.proofs.Asked.{asked, asked_store, refuses_plain}
 use Rattle.unifier.specs.Checks.{cycle_decides}
 use Rattle.unifier.proofs.checked_check.Goals as goal
 use Rattle.unifier.proofs.checked_check.Goals.{After-either_cyclic, In_default}

@@ -11,7 +11,7 @@ use Rattle.trail.specs.Facts.{Holds, holds_parts}
 use Rattle.chains.specs.Work.{work_need}
 use Rattle.unification.specs.Calls.{plain_check}
 use Rattle.cell.specs.declared.Refusal.TheVariants.{TrailRoom}
-use Rattle.unification.specs.Asked.{refuses_state, refuses_left, refuses_right, refuses_work}
+use Rattle.unification.proofs.Asked.{refuses_state, refuses_left, refuses_right, refuses_work}
 use Rattle.unifier.specs.Checks.{room_decides}
 use Rattle.unifier.proofs.plain_check.Goals as goal
 use Rattle.unifier.proofs.plain_check.Goals.{After-trail_room, Else-not-term_at, Else-not-term_at-2, Else-work-work_need, In_default}

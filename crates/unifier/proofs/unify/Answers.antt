@@ -3,8 +3,8 @@ use mathlib.Core.Bool.{false, false≢true}
 use Rattle.trail.specs.declared.Answer.TheVariants.{Done}
 use Rattle.trail.specs.State.{state_of}
 use Rattle.unification.specs.Calls.{plain_check}
-use Rattle.unification.specs.Asked.{asked, plain_says}
-use Rattle.unification.specs.Theorems.{plain_refused}
+use Rattle.unification.proofs.Asked.{asked, plain_says}
+use Rattle.unification.proofs.Theorems.{plain_refused}
 use Rattle.unifier.specs.Settling.{Passed, passed_lent, settled_beside}
 use Rattle.unifier.proofs.unify.Goals as goal
 use Rattle.unifier.proofs.unify.Goals.{In_default}

@@ -3,8 +3,8 @@ use mathlib.Core.Bool.{true}
 use Rattle.trail.specs.declared.Answer.TheVariants.{Done}
 use Rattle.trail.specs.State.{state_of}
 use Rattle.unification.specs.Calls.{checked_check}
-use Rattle.unification.specs.Asked.{checked_asked, checked_says}
-use Rattle.unification.specs.Theorems.{checked_refused}
+use Rattle.unification.proofs.Asked.{checked_asked, checked_says}
+use Rattle.unification.proofs.Theorems.{checked_refused}
 use Rattle.unifier.specs.Settling.{Passed, passed_lent, settled_beside}
 use Rattle.unifier.proofs.unify_with_occurs_check.Goals as goal
 use Rattle.unifier.proofs.unify_with_occurs_check.Goals.{In_default}

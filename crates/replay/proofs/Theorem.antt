@@ -12,7 +12,8 @@ use Rattle.marks.specs.Calls.{marking, cutting, roll_check, rolling, noted, cut_
 use Rattle.replay.specs.History.{Call, append, mark, unify, copy, cut, rollback, Event, Trace, start, ◌▸◌, sets, Line, line, strike_back, write, logbook, unstruck, standing_after, standing, calls, Engine, step, run, history}
 use Rattle.replay.specs.Kept.{back_to, keep, kept}
 use Rattle.replay.specs.Law.{Adds, Obeys, Lawful}
-use Rattle.replay.specs.Ext.{Ext, rolled_is, ext_start, ext_adds, ext_noted, ext_cut}
+use Rattle.replay.specs.Ext.{Ext, rolled_is, ext_start}
+use Rattle.replay.proofs.Ext.{ext_adds, ext_noted, ext_cut}
 use Rattle.trail.specs.Facts.{Holds, holds_parts, holds_whole, check_holds, unless_one, unless_two}
 use Rattle.cell.specs.declared.Refusal.{Refusal}
 use Rattle.cell.specs.declared.Refusal.TheVariants.{Room, Mark, Left}

@@ -15,8 +15,9 @@ use Rattle.cycle.specs.Room.{room_of}
 use Rattle.chains.specs.Work.{work_need, cleared}
 use Rattle.unification.specs.Machine.{Machine, Ending, yes, clashes, occurs, late, unified}
 use Rattle.unification.specs.Calls.{plain_check, checked_check, left_by, answered, unless_refused, plainly, checkedly}
-use Rattle.unification.specs.Asked.{plain_says, checked_says, answered_yes}
-use Rattle.unification.specs.Theorems.{Leaves, plain_leaves, checked_leaves}
+use Rattle.unification.proofs.Asked.{plain_says, checked_says, answered_yes}
+use Rattle.unification.specs.Theorems.{Leaves}
+use Rattle.unification.proofs.Theorems.{plain_leaves, checked_leaves}
 use Rattle.copy.specs.Rules.{copied}
 use Rattle.copy.specs.Inv.{Given}
 use Rattle.copy.specs.Whole.{all_copied}

@@ -30,7 +30,8 @@ use Rattle.copy.specs.Rules as Rules
 use Rattle.copy.specs.Calls.{copying}
 use Rattle.replay.specs.History.{Call, append, mark, unify, copy, cut, rollback, Trace, start, ◌▸◌, calls, sets, Line, line, strike_back, write, logbook, unstruck}
 use Rattle.histories.specs.Calls.{Lent, lent, Lengths, calling, after, answered}
-use Rattle.histories.specs.Demand3.{rest, demand_3}
+use Rattle.histories.specs.Demand3.{rest}
+use Rattle.histories.proofs.Demand3.{demand_3}
 
 -- the words of these kinds
 abbrev words : List Kind → List ℕ

@@ -7,7 +7,8 @@ use Rattle.std.proofs.Math.Dec.{eqb}
 use Rattle.terms.specs.View.{View, free, con, nod, Shape, arity_of}
 use Rattle.unification.specs.Machine.{Act, clash}
 use Rattle.unification.specs.Trees.{Label, Has, Solves, Equal}
-use Rattle.unification.specs.Seen.{Seen, pushed, put, apply, All, all_args}
+use Rattle.unification.specs.Seen.{Seen, pushed, put, apply, All}
+use Rattle.unification.proofs.Seen.{all_args}
 use Rattle.unification.specs.Cases.{Apart, cn, nc, nn, Case, skips, binds, binds', joins, parts}
 use Rattle.unification.specs.Cases
 

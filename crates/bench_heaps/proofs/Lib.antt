@@ -1,0 +1,2 @@
+-- The table, computed.
+pub mod Table
