@@ -1,12 +1,23 @@
 // The rules of the trail and of the marks, on one store with a cell of each kind.
+use std::io;
 use trial::{A, FIXNUM, G_1, STR, VAR, line, say};
 
 const MOST: usize = 0xFFFF_FFFF_FFFF_FFFF;
 
-fn check(rt: &impl Print, name: &[u8], trail: &[u64], trailed: usize, marks: &[u64], marked: usize) -> io::Result<()> {
+fn check(
+    rt: &impl Print,
+    name: &[u8],
+    trail: &[u64],
+    trailed: usize,
+    marks: &[u64],
+    marked: usize,
+) -> io::Result<()> {
     let cells = [0, VAR + 2, VAR + 2, A, STR + 5, G_1, FIXNUM + 1];
     say(rt, name)?;
-    trial::done(rt, engine::trisculap_check(&cells, 7, trail, trailed, marks, marked))?;
+    trial::done(
+        rt,
+        engine::trisculap_check(&cells, 7, trail, trailed, marks, marked),
+    )?;
     line(rt)
 }
 
@@ -21,7 +32,12 @@ pub fn trails(rt: &impl Print) -> io::Result<()> {
     trail(rt, b"trail entry twice, apart: ", &[1, 3, 1], 3)?;
     trail(rt, b"trail entry 0: ", &[0, 0], 1)?;
     trail(rt, b"trail entry at top: ", &[7, 0], 1)?;
-    trail(rt, b"trail entry of all bits: ", &[0xFFFF_FFFF_FFFF_FFFF, 0], 1)?;
+    trail(
+        rt,
+        b"trail entry of all bits: ",
+        &[0xFFFF_FFFF_FFFF_FFFF, 0],
+        1,
+    )?;
     trail(rt, b"trail entry of an unbound Var: ", &[2, 0], 1)?;
     trail(rt, b"trail entry of a header: ", &[5, 0], 1)?;
     trail(rt, b"word past the trail count: ", &[1, 3], 1)?;

@@ -1,4 +1,5 @@
 // Cells alone: the bench lines, each rule of a well-formed store, following, numbers.
+use std::io;
 use trial::{A, F_2, FIXNUM, G_1, LIS, STR, VAR, say};
 
 // The store check, with no trail and no marks.
@@ -36,7 +37,8 @@ pub fn cell_rules(rt: &impl Print) -> io::Result<()> {
     cells_check(rt, b"a Var that names a header: ", &header, 4)?;
     let no_atom = [0, STR + 2, A, STR + 1];
     cells_check(
-        rt, b"Str that names an Atom of arity 0, Str that names a Str: ",
+        rt,
+        b"Str that names an Atom of arity 0, Str that names a Str: ",
         &no_atom,
         4,
     )?;
@@ -76,7 +78,13 @@ pub fn follows(rt: &impl Print) -> io::Result<()> {
     follow(rt, b"follow 0: ", &cells, 8, 0)?;
     follow(rt, b"follow top: ", &cells, 8, 8)?;
     follow(rt, b"follow a header: ", &cells, 8, 6)?;
-    follow(rt, b"follow in a store that is not well formed: ", &cells, 7, 1)
+    follow(
+        rt,
+        b"follow in a store that is not well formed: ",
+        &cells,
+        7,
+        1,
+    )
 }
 
 fn number(rt: &impl Print, name: &[u8], n: i64) -> io::Result<()> {

@@ -3,6 +3,7 @@
 ghost use Rattle.std.specs.Prelude.{◌*◌, ◌<◌};
 ghost use Rattle.store.specs.Store.{limit};
 
+use std::io;
 use store::LIMIT;
 use trial::{FIXNUM, VAR, line, number, say};
 
@@ -22,10 +23,8 @@ fn check_all(rt: &impl Print, name: &[u8], cells: &[u64], top: usize) -> io::Res
 fn rise(cells: &mut [u64; LIMIT], from: usize, to: usize)
     requires { to < limit }
 {
-    let mut i = from;
-    while i < to {
+    for i in from..to {
         cells[i] = VAR + (i + 1) as u64;
-        i += 1;
     }
 }
 
@@ -33,10 +32,8 @@ fn rise(cells: &mut [u64; LIMIT], from: usize, to: usize)
 fn fall(cells: &mut [u64; LIMIT], from: usize, to: usize)
     requires { to < limit }
 {
-    let mut i = from;
-    while i < to {
+    for i in from..to {
         cells[i + 1] = VAR + i as u64;
-        i += 1;
     }
 }
 
@@ -44,11 +41,9 @@ fn fall(cells: &mut [u64; LIMIT], from: usize, to: usize)
 fn swing(cells: &mut [u64; LIMIT], n: usize)
     requires { 2 * n < limit }
 {
-    let mut i: usize = 1;
-    while i < n {
+    for i in 1..n {
         cells[i] = VAR + (2 * n + 1 - i) as u64;
         cells[2 * n + 1 - i] = VAR + (i + 1) as u64;
-        i += 1;
     }
     cells[n] = VAR + (n + 1) as u64;
 }
@@ -66,13 +61,15 @@ pub fn rings(rt: &impl Print) -> io::Result<()> {
     check(rt, b"a ring of 4,094: ", &cells, 4095)?;
     cells[4094] = VAR + 4094;
     check(
-        rt, b"a self-reference at the end of a chain of 4,094: ",
+        rt,
+        b"a self-reference at the end of a chain of 4,094: ",
         &cells,
         4095,
     )?;
     fall(&mut cells, 1, 4094);
     check(
-        rt, b"a ring of 2 at the low end of 4,094 that fall: ",
+        rt,
+        b"a ring of 2 at the low end of 4,094 that fall: ",
         &cells,
         4095,
     )?;
@@ -123,17 +120,32 @@ pub fn sizes(rt: &impl Print) -> io::Result<()> {
     cells[1] = VAR + 1;
     rise(&mut cells, 3, 255);
     cells[255] = VAR + 255;
-    check(rt, b"256 cells, a chain that ends in the last: ", &cells, 256)?;
+    check(
+        rt,
+        b"256 cells, a chain that ends in the last: ",
+        &cells,
+        256,
+    )?;
     cells[255] = VAR + 254;
     check(rt, b"256 cells, a ring of the last two: ", &cells, 256)?;
     cells[255] = VAR + 256;
     cells[256] = VAR + 256;
-    check(rt, b"257 cells, a chain that ends in the last: ", &cells, 257)?;
+    check(
+        rt,
+        b"257 cells, a chain that ends in the last: ",
+        &cells,
+        257,
+    )?;
     cells[256] = VAR + 255;
     check(rt, b"257 cells, a ring of the last two: ", &cells, 257)
 }
 
-fn append_to(rt: &impl Print, name: &[u8], cells: &mut [u64; LIMIT], words: &[u64]) -> io::Result<()> {
+fn append_to(
+    rt: &impl Print,
+    name: &[u8],
+    cells: &mut [u64; LIMIT],
+    words: &[u64],
+) -> io::Result<()> {
     let mut top: usize = 2001;
     let none = &words[..0];
     let mut at: usize = 0;
@@ -170,22 +182,32 @@ pub fn appends(rt: &impl Print) -> io::Result<()> {
 
 // Rolls a chain with these cells on its trail back to a mark with this top and no entry; tells the
 // counts and the trailed cells after it.
-fn roll(rt: &impl Print, name: &[u8], cells: &mut [u64; LIMIT], a: u64, b: u64, at_top: u64) -> io::Result<()> {
+fn roll(
+    rt: &impl Print,
+    name: &[u8],
+    cells: &mut [u64; LIMIT],
+    a: u64,
+    b: u64,
+    at_top: u64,
+) -> io::Result<()> {
     let mut top: usize = 4095;
     let mut trail = [a, b, 0];
     let mut trailed: usize = 2;
     let mut marks = [at_top, 0];
     let mut marked: usize = 1;
     say(rt, name)?;
-    trial::done(rt, engine::trisculap_rollback(
-        cells,
-        &mut top,
-        &mut trail,
-        &mut trailed,
-        &mut marks,
-        &mut marked,
-        1,
-    ))?;
+    trial::done(
+        rt,
+        engine::trisculap_rollback(
+            cells,
+            &mut top,
+            &mut trail,
+            &mut trailed,
+            &mut marks,
+            &mut marked,
+            1,
+        ),
+    )?;
     say(rt, b", top ")?;
     number(rt, top)?;
     say(rt, b", trail count ")?;
@@ -200,14 +222,16 @@ pub fn rollbacks(rt: &impl Print) -> io::Result<()> {
     swing(&mut cells, 2047);
     cells[2048] = VAR + 2048;
     roll(
-        rt, b"rollback that drops half of a chain: ",
+        rt,
+        b"rollback that drops half of a chain: ",
         &mut cells,
         1,
         4094,
         2048,
     )?;
     roll(
-        rt, b"rollback that unbinds two of it: ",
+        rt,
+        b"rollback that unbinds two of it: ",
         &mut cells,
         1,
         4094,
@@ -216,7 +240,8 @@ pub fn rollbacks(rt: &impl Print) -> io::Result<()> {
     rise(&mut cells, 1, 4094);
     cells[4094] = VAR + 4094;
     roll(
-        rt, b"rollback that drops half, and unbinds what named it: ",
+        rt,
+        b"rollback that drops half, and unbinds what named it: ",
         &mut cells,
         1,
         2047,

@@ -1,6 +1,7 @@
 // Heap B with each bit of each cell flipped.
 ghost use Rattle.std.specs.Prelude.{◌<◌, length};
 
+use std::io;
 use trial::{G_1, STR, VAR, line, number, say};
 
 fn is_done(cells: &[u64], top: usize) -> bool {
@@ -28,20 +29,20 @@ fn one(rt: &impl Print, cells: &mut [u64], i: usize, bit: u32) -> io::Result<()>
     let top = cells.len();
     flip(cells, i, bit);
     if is_done(cells, top) {
-        accepted(rt, i, bit)
+        accepted(rt, i, bit)?;
     }
     flip(cells, i, bit);
+    Ok(())
 }
 
 // Each bit of cell `i`.
 fn bits(rt: &impl Print, cells: &mut [u64], i: usize) -> io::Result<()>
     requires { i < length cells.old }
 {
-    let mut bit: u32 = 0;
-    while bit < 64 {
+    for bit in 0..64 {
         one(rt, cells, i, bit)?;
-        bit += 1;
     }
+    Ok(())
 }
 
 pub fn heap_b(rt: &impl Print) -> io::Result<()> {

@@ -1,4 +1,5 @@
 // Appends up to the limit and past it, in exactly as many lent cells as the limit.
+use std::io;
 use store::LIMIT;
 use trial::{FIXNUM, line, number, say};
 

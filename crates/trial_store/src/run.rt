@@ -1,5 +1,6 @@
 // A history of calls on one store, with all lent words after each; and stores that a rollback would
 // break.
+use std::io;
 use trial::{A, G_1, LIS, STR, VAR, line, say};
 
 // All lent words and counts.
@@ -39,8 +40,16 @@ impl Book {
         let cells = self.cells;
         let trail = self.trail;
         let marks = self.marks;
-        trial::state(rt, &cells, self.top, &trail, self.trailed, &marks, self.marked)?;
-        self
+        trial::state(
+            rt,
+            &cells,
+            self.top,
+            &trail,
+            self.trailed,
+            &marks,
+            self.marked,
+        )?;
+        Ok(self)
     }
 
     fn append(self, rt: &impl Print, name: &[u8], words: &[u64]) -> io::Result<Book> {
@@ -105,7 +114,10 @@ impl Book {
         let mut marks = self.marks;
         let mut marked = self.marked;
         say(rt, name)?;
-        done(rt, engine::trisculap_cut(&cells, top, &trail, trailed, &mut marks, &mut marked, k))?;
+        done(
+            rt,
+            engine::trisculap_cut(&cells, top, &trail, trailed, &mut marks, &mut marked, k),
+        )?;
         Book {
             cells,
             top,
@@ -125,15 +137,18 @@ impl Book {
         let mut marks = self.marks;
         let mut marked = self.marked;
         say(rt, name)?;
-        done(rt, engine::trisculap_rollback(
-            &mut cells,
-            &mut top,
-            &mut trail,
-            &mut trailed,
-            &mut marks,
-            &mut marked,
-            k,
-        ))?;
+        done(
+            rt,
+            engine::trisculap_rollback(
+                &mut cells,
+                &mut top,
+                &mut trail,
+                &mut trailed,
+                &mut marks,
+                &mut marked,
+                k,
+            ),
+        )?;
         Book {
             cells,
             top,
@@ -157,7 +172,8 @@ impl Book {
 // Two marks, with a cell bound between them; refusals; and back to each mark.
 pub fn history(rt: &impl Print) -> io::Result<()> {
     let b = Book::fresh().append(
-        rt, b"append Var 1, Str 3, g/1, Var 4: ",
+        rt,
+        b"append Var 1, Str 3, g/1, Var 4: ",
         &[VAR + 1, STR + 3, G_1, VAR + 4],
     )?;
     let b = b.mark(rt, b"mark: ")?.append(rt, b"append a: ", &[A])?;
@@ -173,11 +189,19 @@ pub fn history(rt: &impl Print) -> io::Result<()> {
     let b = b.rollback(rt, b"rollback to 2: ", 2)?;
     let b = b.cut(rt, b"cut to 1: ", 1)?;
     let b = b.rollback(rt, b"rollback to 1: ", 1)?;
-    b.cut(rt, b"cut to 0: ", 0)
+    b.cut(rt, b"cut to 0: ", 0)?;
+    Ok(())
 }
 
 // 0, Str 2, g/1, Var 4, a; one trail entry, used or not; one mark of these counts.
-fn broken(rt: &impl Print, name: &[u8], entry: u64, trailed: usize, t: u64, c: u64) -> io::Result<()> {
+fn broken(
+    rt: &impl Print,
+    name: &[u8],
+    entry: u64,
+    trailed: usize,
+    t: u64,
+    c: u64,
+) -> io::Result<()> {
     let b = Book {
         cells: [0, STR + 2, G_1, VAR + 4, A, 0, 0, 0, 0, 0],
         top: 5,
@@ -186,14 +210,29 @@ fn broken(rt: &impl Print, name: &[u8], entry: u64, trailed: usize, t: u64, c: u
         marks: [t, c, 0, 0, 0],
         marked: 1,
     };
-    b.rollback(rt, name, 1)
+    b.rollback(rt, name, 1)?;
+    Ok(())
 }
 
 pub fn left_broken(rt: &impl Print) -> io::Result<()> {
     broken(rt, b"rollback to a top of 0: ", 0, 0, 0, 0)?;
     broken(rt, b"rollback into a run: ", 0, 0, 3, 0)?;
-    broken(rt, b"rollback below the cell that a Var names: ", 0, 0, 4, 0)?;
+    broken(
+        rt,
+        b"rollback below the cell that a Var names: ",
+        0,
+        0,
+        4,
+        0,
+    )?;
     broken(rt, b"rollback below a trail entry that stays: ", 4, 1, 4, 1)?;
     broken(rt, b"rollback that unbinds a header: ", 2, 1, 5, 0)?;
-    broken(rt, b"rollback that unbinds the Var and drops a: ", 3, 1, 4, 0)
+    broken(
+        rt,
+        b"rollback that unbinds the Var and drops a: ",
+        3,
+        1,
+        4,
+        0,
+    )
 }
