@@ -1,6 +1,6 @@
 -- `trial_vectors::replay` meets its contract, which asks only that it is safe and ends: each row takes
 -- a place, and differs at most once.
-use Rattle.std.proofs.Common.{length, ◌-◌, ◌≤◌, ◌×◌}
+use Rattle.std.proofs.Common.{length, ◌-◌, ◌≤◌}
 use Rattle.trial_vectors.proofs.replay.Given as goal
 
 abbrev pub invariant-loop-at : goal.invariant-loop-at
