@@ -159,33 +159,12 @@ fn scant(
 
 // Where several hold, the lowest number.
 pub fn lowest(rt: &impl Print) -> io::Result<()> {
-    scant(
-        rt,
-        b"all from 1 to 4",
-        &mut [0, VAR + 2, VAR + 1],
-        3,
-        0,
-        0,
-        0,
-    )?;
-    scant(
-        rt,
-        b"all from 2 to 4",
-        &mut [0, STR + 2, G_1, VAR + 3],
-        3,
-        1,
-        0,
-        0,
-    )?;
-    scant(
-        rt,
-        b"all from 3 to 5",
-        &mut [0, VAR + 1, VAR + 2],
-        0,
-        0,
-        3,
-        1,
-    )?;
+    let mut ring = [0, VAR + 2, VAR + 1];
+    scant(rt, b"all from 1 to 4", &mut ring, 3, 0, 0, 0)?;
+    let mut b = [0, STR + 2, G_1, VAR + 3];
+    scant(rt, b"all from 2 to 4", &mut b, 3, 1, 0, 0)?;
+    let mut two = [0, VAR + 1, VAR + 2];
+    scant(rt, b"all from 3 to 5", &mut two, 0, 0, 3, 1)?;
     scant(rt, b"4 and 5", &mut [0, VAR + 1, VAR + 2], 0, 0, 1, 2)?;
     let mut cyclic = [0, STR + 2, G_1, STR + 2, VAR + 4, VAR + 5];
     let mut trail = [0u64; 1];
