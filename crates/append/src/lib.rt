@@ -12,7 +12,7 @@ use store::LIMIT;
 use trail::Answer;
 
 // The old `top`, where the words stand, or why they were not added.
-#[derive(Drop)]
+#[derive(Clone, Copy)]
 pub enum Placed {
     At(usize),
     Refused(Refusal),

@@ -8,7 +8,6 @@ use Rattle.std.proofs.Common.{eqb-true}
 use Rattle.cell.specs.Answers.{refusal_number}
 use Rattle.trail.specs.State.{State, Outcome, done, failed, refused, same_state_lem}
 use Rattle.cycle.specs.declared.Verdict.{Verdict}
-use Rattle.cycle.specs.declared.Verdict.TheVariants as Verdict
 use Rattle.cycle.specs.Verdict.{verdict_of}
 use Rattle.unification.specs.Calls.{plainly, checkedly}
 use Rattle.copy.specs.Calls as Copy

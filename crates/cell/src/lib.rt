@@ -11,7 +11,7 @@ ghost use Rattle.cell.specs.Answers.{refusal_number, number_cell};
 
 // Why a public call refuses: a case for each row of the table of refusals, in its order. The
 // numbers 1 to 11 are `refusal_number`, in specs/Answers.antt.
-#[derive(Drop)]
+#[derive(Clone, Copy)]
 pub enum Refusal {
     Cells,
     Trail,
@@ -46,14 +46,14 @@ pub fn refusal_number(r: Refusal) -> u64
 }
 
 // A word, or why there is none.
-#[derive(Drop)]
+#[derive(Clone, Copy)]
 pub enum Made {
     Word(u64),
     Refused(Refusal),
 }
 
 // What a word says, with its numbers. Bad keeps to no row of the table of kinds.
-#[derive(Drop)]
+#[derive(Clone, Copy)]
 pub enum Kind {
     Var(usize),
     Str(usize),
@@ -64,7 +64,7 @@ pub enum Kind {
 }
 
 // A cell that was read: its kind, held with its position.
-#[derive(Drop)]
+#[derive(Clone, Copy)]
 pub struct Cell {
     pub at: usize,
     pub kind: Kind,

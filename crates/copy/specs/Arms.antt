@@ -1,8 +1,8 @@
 -- What the arms of the code leave, as the rules say it.
 use Rattle.std.specs.Prelude.{◌≡◌, ℕ, suc, ◌+◌, ◌-◌, ◌<◌, ◌≤◌, length, take, drop}
 use Rattle.std.proofs.Math.Path.{refl, sym, ap, ap₂}
-use Rattle.std.proofs.Common.{◌∙◌, inl, inr, take-append-drop, drop-set-lt}
-use mathlib.Core.List.{List, [], ◌∷◌, ◌++◌, append-nil}
+use Rattle.std.proofs.Common.{◌∙◌, take-append-drop, drop-set-lt}
+use mathlib.Core.List.{List, ◌++◌, append-nil}
 use native.Mathlib.Omega.{arith}
 use Rattle.std.proofs.Math.Decide.{ℕ_discrete}
 use Rattle.std.proofs.Math.ListN.{get_or, set}
@@ -10,9 +10,6 @@ use Rattle.std.proofs.Math.Seq.{get_or-take, take-set-lt}
 use Rattle.std.proofs.lemmas.List.{take-set-le, drop-set-add}
 use borrow.Author.Tests.{eq-eqb, ne_eqb}
 use borrow.Rule.Slice.PartMut.{mid_of, put_mid}
-use types.Run.{OneOf}
-use denote.Enum.Declared.{tag_of}
-use Rattle.cell.specs.contracts.Kind.{the_type}
 use Rattle.cell.specs.declared.Kind.{Kind}
 use Rattle.cell.specs.declared.Kind.TheVariants.{Var, Str, Lis, Atom, Fixnum, Bad}
 use Rattle.cell.specs.Kinds.{kind_of, word_of_kind}
@@ -79,20 +76,15 @@ module _ (cells work : List ℕ) (end : ℕ) where
           ap (λ (l : List ℕ). state_of l w e) (at ∙ ap (set c p) k)
           ∙ ap (λ (t : State). state_of (set t.cells p (word_of_kind (Lis (get_or t.tables (pair_at top l) 0)))) t.tables t.end) r
 
-    three : (x : ℕ) → OneOf (3 ∷ 4 ∷ 5 ∷ []) x → 3 ≤ x
-    three x (inl e) = omega arith
-    three x (inr (inl e)) = omega arith
-    three x (inr (inr e)) = omega arith
-
     -- an Atom, a Fixnum: the word itself
-    pub act_plain : (w : ℕ) (d : List ℕ) (k : Kind) → OneOf (3 ∷ 4 ∷ 5 ∷ []) (tag_of the_type k) → d ≡ set cells p w → state_of d work end ≡ act top (state_of cells work end) p w k
+    pub act_plain : (w : ℕ) (d : List ℕ) (k : Kind) → ((v : ℕ) → k ≡ Var v → ⊥) → ((f : ℕ) → k ≡ Str f → ⊥) → ((l : ℕ) → k ≡ Lis l → ⊥) → d ≡ set cells p w → state_of d work end ≡ act top (state_of cells work end) p w k
     unfolding act put
-    act_plain w d (Var v) h e = absurd (let z = three 0 h in omega arith)
-    act_plain w d (Str v) h e = absurd (let z = three 1 h in omega arith)
-    act_plain w d (Lis v) h e = absurd (let z = three 2 h in omega arith)
-    act_plain w d (Atom n a) h e = ap (λ (l : List ℕ). state_of l work end) e
-    act_plain w d (Fixnum z) h e = ap (λ (l : List ℕ). state_of l work end) e
-    act_plain w d Bad h e = ap (λ (l : List ℕ). state_of l work end) e
+    act_plain w d (Var v) no_var no_str no_lis e = absurd (no_var v refl)
+    act_plain w d (Str v) no_var no_str no_lis e = absurd (no_str v refl)
+    act_plain w d (Lis v) no_var no_str no_lis e = absurd (no_lis v refl)
+    act_plain w d (Atom n a) no_var no_str no_lis e = ap (λ (l : List ℕ). state_of l work end) e
+    act_plain w d (Fixnum z) no_var no_str no_lis e = ap (λ (l : List ℕ). state_of l work end) e
+    act_plain w d Bad no_var no_str no_lis e = ap (λ (l : List ℕ). state_of l work end) e
 
 -- ---- tables that are the front of a longer list
 module _ (cells work : List ℕ) (top end p : ℕ) where
@@ -170,19 +162,12 @@ module _ (s : List ℕ) (top w : ℕ) where
   unfolding end_word end_kind
   end_var v e q d = ap (λ (j : ℕ). get_or s j 0) d ∙ sym (ap (end_kind s top w) q)
 
-  pub end_other : (k : Kind) → k ≡ kind_of w → OneOf (1 ∷ 2 ∷ 3 ∷ 4 ∷ 5 ∷ []) (tag_of the_type k) → w ≡ end_word s top w
+  pub end_other : (k : Kind) → k ≡ kind_of w → ((v : ℕ) → k ≡ Var v → ⊥) → w ≡ end_word s top w
   unfolding end_word end_kind
   end_other k q h = go k h ∙ ap (end_kind s top w) q
     where
-      some : (x : ℕ) → OneOf (1 ∷ 2 ∷ 3 ∷ 4 ∷ 5 ∷ []) x → 1 ≤ x
-      some x (inl e) = omega arith
-      some x (inr (inl e)) = omega arith
-      some x (inr (inr (inl e))) = omega arith
-      some x (inr (inr (inr (inl e)))) = omega arith
-      some x (inr (inr (inr (inr e)))) = omega arith
-
-      go : (k : Kind) → OneOf (1 ∷ 2 ∷ 3 ∷ 4 ∷ 5 ∷ []) (tag_of the_type k) → w ≡ end_kind s top w k
-      go (Var v) h = absurd (let z = some 0 h in omega arith)
+      go : (k : Kind) → ((v : ℕ) → k ≡ Var v → ⊥) → w ≡ end_kind s top w k
+      go (Var v) h = absurd (h v refl)
       go (Str v) h = refl
       go (Lis v) h = refl
       go (Atom n a) h = refl

@@ -21,7 +21,7 @@ use cell::{Cell, Kind, Refusal};
 use store::LIMIT;
 
 // The old `top`, where the copy stands, or why none was made.
-#[derive(Drop)]
+#[derive(Clone, Copy)]
 pub enum Copied {
     At(usize),
     Refused(Refusal),

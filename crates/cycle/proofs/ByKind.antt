@@ -1,13 +1,10 @@
 -- What each arm of a match on a cell's kind says of the cell's links and of the runs that it names.
 use mathlib.Core.Path.{◌≡◌, refl, sym, ap, ◌∙◌}
 use mathlib.Core.Bool.{Bool, true, false}
-use mathlib.Core.List.{List, [], ◌∷◌}
+use mathlib.Core.List.{List}
 use Prim.Native.Nat.{ℕ, ◌+◌}
 use native.Mathlib.Omega.{arith}
 use borrow.Author.Tests.{eq-eqb, ne_eqb, ltb-true, ltb-false}
-use types.Run.{OneOf, miss}
-use denote.Enum.Declared.{tag_of}
-use Rattle.cell.specs.contracts.Kind.{the_type}
 use Rattle.cell.specs.declared.Kind.{Kind}
 use Rattle.cell.specs.declared.Kind.TheVariants.{Var, Str, Lis, Atom, Fixnum, Bad}
 use Rattle.store.specs.Store.{kind_at, header_at}
@@ -15,57 +12,42 @@ use Rattle.cycle.specs.Kids.{arity_kind, header_arity, arity_at, head_kind, head
 use Rattle.cycle.specs.Most.{own_kind, own_room}
 use Rattle.cycle.specs.Links.{links_kind, links, link_kind, link, Span}
 
--- ---- the kinds that a `_` arm is left with, beside an arm for Atom, beside those for Str and Lis, beside those for the first four, and beside those for Str, Lis and Atom
-abbrev no_atom : List ℕ
-no_atom = 0 ∷ 1 ∷ 2 ∷ 4 ∷ 5 ∷ []
-
-abbrev no_name : List ℕ
-no_name = 0 ∷ 3 ∷ 4 ∷ 5 ∷ []
-
-abbrev no_link : List ℕ
-no_link = 4 ∷ 5 ∷ []
-
-abbrev no_run : List ℕ
-no_run = 0 ∷ 4 ∷ 5 ∷ []
-
-abbrev Other : List ℕ → Kind → Type 0
-Other keys k = OneOf keys (tag_of the_type k)
-
-no_arity : (k : Kind) → Other no_atom k → 0 ≡ arity_kind k
+-- ---- what a `_` arm is left with, beside an arm for Atom, beside those for Str and Lis, beside those for the first four, and beside those for Str, Lis and Atom
+no_arity : (k : Kind) → ((n a : ℕ) → k ≡ Atom n a → ⊥) → 0 ≡ arity_kind k
 unfolding arity_kind
 no_arity (Var v) h = refl
 no_arity (Str v) h = refl
 no_arity (Lis v) h = refl
-no_arity (Atom n a) h = absurd (miss no_atom 3 tt h)
+no_arity (Atom n a) h = absurd (h n a refl)
 no_arity (Fixnum z) h = refl
 no_arity Bad h = refl
 
-no_name_lem : (k : Kind) → Other no_name k → (0 ≡ head_kind k) × (0 ≡ pair_kind k)
+no_name : (k : Kind) → ((v : ℕ) → k ≡ Str v → ⊥) → ((v : ℕ) → k ≡ Lis v → ⊥) → (0 ≡ head_kind k) × (0 ≡ pair_kind k)
 unfolding head_kind pair_kind
-no_name_lem (Var v) h = (refl, refl)
-no_name_lem (Str v) h = absurd (miss no_name 1 tt h)
-no_name_lem (Lis v) h = absurd (miss no_name 2 tt h)
-no_name_lem (Atom n a) h = (refl, refl)
-no_name_lem (Fixnum z) h = (refl, refl)
-no_name_lem Bad h = (refl, refl)
+no_name (Var v) f l = (refl, refl)
+no_name (Str v) f l = absurd (f v refl)
+no_name (Lis v) f l = absurd (l v refl)
+no_name (Atom n a) f l = (refl, refl)
+no_name (Fixnum z) f l = (refl, refl)
+no_name Bad f l = (refl, refl)
 
-no_link_lem : (i : ℕ) (q : Kind) → Other no_link q → (0 ≡ links_kind i q) × (0 ≡ link_kind i 0 q)
+no_link : (i : ℕ) (k : Kind) → ((v : ℕ) → k ≡ Var v → ⊥) → ((v : ℕ) → k ≡ Str v → ⊥) → ((v : ℕ) → k ≡ Lis v → ⊥) → ((n a : ℕ) → k ≡ Atom n a → ⊥) → (0 ≡ links_kind i k) × (0 ≡ link_kind i 0 k)
 unfolding links_kind link_kind
-no_link_lem i (Var v) h = absurd (miss no_link 0 tt h)
-no_link_lem i (Str v) h = absurd (miss no_link 1 tt h)
-no_link_lem i (Lis v) h = absurd (miss no_link 2 tt h)
-no_link_lem i (Atom n a) h = absurd (miss no_link 3 tt h)
-no_link_lem i (Fixnum z) h = (refl, refl)
-no_link_lem i Bad h = (refl, refl)
+no_link i (Var v) h f l a = absurd (h v refl)
+no_link i (Str v) h f l a = absurd (f v refl)
+no_link i (Lis v) h f l a = absurd (l v refl)
+no_link i (Atom n x) h f l a = absurd (a n x refl)
+no_link i (Fixnum z) h f l a = (refl, refl)
+no_link i Bad h f l a = (refl, refl)
 
-no_own : (s : List ℕ) (k : Kind) → Other no_run k → 0 ≡ own_kind s k
+no_own : (s : List ℕ) (k : Kind) → ((v : ℕ) → k ≡ Str v → ⊥) → ((v : ℕ) → k ≡ Lis v → ⊥) → ((n a : ℕ) → k ≡ Atom n a → ⊥) → 0 ≡ own_kind s k
 unfolding own_kind
-no_own s (Var v) h = refl
-no_own s (Str v) h = absurd (miss no_run 1 tt h)
-no_own s (Lis v) h = absurd (miss no_run 2 tt h)
-no_own s (Atom n a) h = absurd (miss no_run 3 tt h)
-no_own s (Fixnum z) h = refl
-no_own s Bad h = refl
+no_own s (Var v) f l a = refl
+no_own s (Str v) f l a = absurd (f v refl)
+no_own s (Lis v) f l a = absurd (l v refl)
+no_own s (Atom n x) f l a = absurd (a n x refl)
+no_own s (Fixnum z) f l a = refl
+no_own s Bad f l a = refl
 
 -- ---- each arm's answer, for the kind q that was read at i
 module _ (s : List ℕ) (i : ℕ) (q : Kind) (is : q ≡ kind_at s i) where
@@ -73,7 +55,7 @@ module _ (s : List ℕ) (i : ℕ) (q : Kind) (is : q ≡ kind_at s i) where
   unfolding arity_at arity_kind
   arity_atom n a e = ap arity_kind (sym e ∙ is)
 
-  pub arity_none : Other no_atom q → 0 ≡ arity_at s i
+  pub arity_none : ((n a : ℕ) → q ≡ Atom n a → ⊥) → 0 ≡ arity_at s i
   unfolding arity_at
   arity_none h = no_arity q h ∙ ap arity_kind is
 
@@ -85,9 +67,9 @@ module _ (s : List ℕ) (i : ℕ) (q : Kind) (is : q ≡ kind_at s i) where
   unfolding head head_kind pair pair_kind
   named_lis l e = (ap pair_kind (sym e ∙ is), ap head_kind (sym e ∙ is))
 
-  pub named_none : Other no_name q → (0 ≡ head s i) × (0 ≡ pair s i)
+  pub named_none : ((v : ℕ) → q ≡ Str v → ⊥) → ((v : ℕ) → q ≡ Lis v → ⊥) → (0 ≡ head s i) × (0 ≡ pair s i)
   unfolding head pair
-  named_none h = let n = no_name_lem q h in (n.0 ∙ ap head_kind is, n.1 ∙ ap pair_kind is)
+  named_none f l = let n = no_name q f l in (n.0 ∙ ap head_kind is, n.1 ∙ ap pair_kind is)
 
   module _ (next end : ℕ) where
     spans : next ≡ link s i 0 → end ≡ next + links s i → Span s i 0 next end
@@ -113,9 +95,9 @@ module _ (s : List ℕ) (i : ℕ) (q : Kind) (is : q ≡ kind_at s i) where
   unfolding links links_kind link link_kind
   links_atom n a e = spans (i + 1) (i + 1 + a) (let f = ap (link_kind i 0) (sym e ∙ is) in omega arith) (let n = ap (links_kind i) (sym e ∙ is) in omega arith)
 
-  pub links_none : Other no_link q → Span s i 0 0 0
+  pub links_none : ((v : ℕ) → q ≡ Var v → ⊥) → ((v : ℕ) → q ≡ Str v → ⊥) → ((v : ℕ) → q ≡ Lis v → ⊥) → ((n a : ℕ) → q ≡ Atom n a → ⊥) → Span s i 0 0 0
   unfolding links link
-  links_none h = let n = no_link_lem i q h in spans 0 0 (n.1 ∙ ap (link_kind i 0) is) (let m = n.0 ∙ ap (links_kind i) is in omega arith)
+  links_none h f l a = let n = no_link i q h f l a in spans 0 0 (n.1 ∙ ap (link_kind i 0) is) (let m = n.0 ∙ ap (links_kind i) is in omega arith)
 
   pub own_bare : (f : ℕ) → q ≡ Str f → {b : Bool} → b ≡ header_at s f → b ≡ false → 1 ≡ own_room s i
   unfolding own_room own_kind arity_at
@@ -141,6 +123,6 @@ module _ (s : List ℕ) (i : ℕ) (q : Kind) (is : q ≡ kind_at s i) where
   unfolding own_room own_kind
   own_run n a e z = sym (ap (own_kind s) (sym is ∙ e) ∙ rw (ne_eqb a 0 z))
 
-  pub own_none : Other no_run q → 0 ≡ own_room s i
+  pub own_none : ((v : ℕ) → q ≡ Str v → ⊥) → ((v : ℕ) → q ≡ Lis v → ⊥) → ((n a : ℕ) → q ≡ Atom n a → ⊥) → 0 ≡ own_room s i
   unfolding own_room
-  own_none h = no_own s q h ∙ ap (own_kind s) is
+  own_none f l a = no_own s q f l a ∙ ap (own_kind s) is

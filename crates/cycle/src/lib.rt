@@ -18,7 +18,7 @@ use cell::{Kind, Refusal};
 use store::{LIMIT, SMALL};
 
 // What the cycle verdict answers.
-#[derive(Drop)]
+#[derive(Clone, Copy)]
 pub enum Verdict {
     Yes,
     No,
@@ -37,7 +37,7 @@ pub fn arity_at(cells: &[u64], f: usize) -> usize
 }
 
 // The cells that a cell leads to, always neighbours: from `next` on, up to `end`.
-#[derive(Drop)]
+#[derive(Clone, Copy)]
 struct Links {
     next: usize,
     end: usize,
@@ -77,7 +77,7 @@ fn links_of(cells: &[u64], top: usize, i: usize) -> Links
 }
 
 // What a walk saw: whether it came to a cell on its own path, and how many links it went over.
-#[derive(Drop)]
+#[derive(Clone, Copy)]
 struct Seen {
     cycle: bool,
     links: usize,

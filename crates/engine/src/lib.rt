@@ -1,6 +1,6 @@
-// The public calls, as firmware links them: `include/trisculap.h` declares each for C. A call returns
-// 0 where it answers and the number of the refusal where it refuses. Each contract says the returned
-// number, the answer and every lent word by the definition that the inner call is proved against.
+// The public calls. `crates/engine_c` exports each to C, as `include/trisculap.h` declares it. A call
+// returns 0 where it answers and the number of the refusal where it refuses. Each contract says the
+// returned number, the answer and every lent word by the definition that the inner call is proved against.
 #![tactic(auto)]
 
 ghost use Rattle.std.specs.Prelude.{◌≡◌};
@@ -33,8 +33,7 @@ fn code(a: Answer) -> u64
 }
 
 // The store check; refusals 1 and 2.
-#[unsafe(no_mangle)]
-pub extern "C" fn trisculap_check(
+pub fn trisculap_check(
     cells: &[u64],
     top: usize,
     trail: &[u64],
@@ -48,8 +47,7 @@ pub extern "C" fn trisculap_check(
 }
 
 // The cell of a number; refusal 11.
-#[unsafe(no_mangle)]
-pub extern "C" fn trisculap_number(n: i64, word: &mut u64) -> u64
+pub fn trisculap_number(n: i64, word: &mut u64) -> u64
     ensures { (result, word.new) ≡ tells (said_word (number_cell n)) word.old }
 {
     match cell::number_cell(n) {
@@ -62,8 +60,7 @@ pub extern "C" fn trisculap_number(n: i64, word: &mut u64) -> u64
 }
 
 // Follows a cell along Vars; refusals 1 and 3.
-#[unsafe(no_mangle)]
-pub extern "C" fn trisculap_follow(cells: &[u64], top: usize, at: usize, word: &mut u64) -> u64
+pub fn trisculap_follow(cells: &[u64], top: usize, at: usize, word: &mut u64) -> u64
     ensures { (result, word.new) ≡ tells (said_word (followed cells.now top at)) word.old }
 {
     match store::follow(cells, top, at) {
@@ -76,8 +73,7 @@ pub extern "C" fn trisculap_follow(cells: &[u64], top: usize, at: usize, word: &
 }
 
 // Appends words at `top`; refusals 1, 2, 7 and 9.
-#[unsafe(no_mangle)]
-pub extern "C" fn trisculap_append(
+pub fn trisculap_append(
     cells: &mut [u64],
     top: &mut usize,
     trail: &[u64],
@@ -99,8 +95,7 @@ pub extern "C" fn trisculap_append(
 }
 
 // Sets a mark; refusals 1, 2 and 7.
-#[unsafe(no_mangle)]
-pub extern "C" fn trisculap_mark(
+pub fn trisculap_mark(
     cells: &[u64],
     top: usize,
     trail: &[u64],
@@ -121,8 +116,7 @@ pub extern "C" fn trisculap_mark(
 }
 
 // Rolls back to mark `k`; refusals 1, 2, 8 and 10.
-#[unsafe(no_mangle)]
-pub extern "C" fn trisculap_rollback(
+pub fn trisculap_rollback(
     cells: &mut [u64],
     top: &mut usize,
     trail: &mut [u64],
@@ -137,8 +131,7 @@ pub extern "C" fn trisculap_rollback(
 }
 
 // Drops the marks above `k`; refusals 1, 2 and 8.
-#[unsafe(no_mangle)]
-pub extern "C" fn trisculap_cut(
+pub fn trisculap_cut(
     cells: &[u64],
     top: usize,
     trail: &[u64],
@@ -153,8 +146,7 @@ pub extern "C" fn trisculap_cut(
 }
 
 // Unifies two cells plainly; refusals 1, 2, 3, 4 and 5.
-#[unsafe(no_mangle)]
-pub extern "C" fn trisculap_unify(
+pub fn trisculap_unify(
     cells: &mut [u64],
     top: usize,
     trail: &mut [u64],
@@ -182,8 +174,7 @@ pub extern "C" fn trisculap_unify(
 }
 
 // Unifies two cells with the occurs check; refusals 1, 2, 3, 4, 5 and 6.
-#[unsafe(no_mangle)]
-pub extern "C" fn trisculap_unify_checked(
+pub fn trisculap_unify_checked(
     cells: &mut [u64],
     top: usize,
     trail: &mut [u64],
@@ -211,8 +202,7 @@ pub extern "C" fn trisculap_unify_checked(
 }
 
 // Copies a term to the cells from `top` on; refusals 1, 3, 4 and 7.
-#[unsafe(no_mangle)]
-pub extern "C" fn trisculap_copy(
+pub fn trisculap_copy(
     cells: &mut [u64],
     top: &mut usize,
     work: &mut [u64],
@@ -231,8 +221,7 @@ pub extern "C" fn trisculap_copy(
 }
 
 // Whether the root reaches a cycle; refusals 1 and 3.
-#[unsafe(no_mangle)]
-pub extern "C" fn trisculap_cyclic(cells: &[u64], top: usize, root: usize, yes: &mut u64) -> u64
+pub fn trisculap_cyclic(cells: &[u64], top: usize, root: usize, yes: &mut u64) -> u64
     ensures { (result, yes.new) ≡ decides (said_verdict (verdict_of cells.now top root)) yes.old }
 {
     match cycle::cycle_verdict(cells, top, root) {

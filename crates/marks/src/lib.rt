@@ -15,7 +15,7 @@ use store::SET;
 use trail::{Answer, MARK_WIDTH};
 
 // A mark's number, or why it was not set.
-#[derive(Drop)]
+#[derive(Clone, Copy)]
 pub enum Marked {
     Number(usize),
     Refused(Refusal),
@@ -146,7 +146,7 @@ fn left_good(cells: &[u64], trail: &[u64], trailed: usize, t: usize, c: usize) -
 }
 
 // The counts that a mark has recorded.
-#[derive(Drop)]
+#[derive(Clone, Copy)]
 struct Counts {
     top: usize,
     trailed: usize,

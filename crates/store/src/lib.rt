@@ -91,7 +91,7 @@ fn atom_at(cells: &[u64], top: usize, f: usize) -> bool
 // How a used cell stands to its row of the table of kinds: it breaks it; it keeps to it; it keeps to
 // it as a Var that names a higher cell, which names a lower one, so that the way turns there; or it
 // is a header with so many arguments, which are still to be judged.
-#[derive(Drop)]
+#[derive(Clone, Copy)]
 enum Standing {
     Breaks,
     Keeps,

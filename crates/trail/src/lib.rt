@@ -14,7 +14,7 @@ use store::SET;
 pub const MARK_WIDTH: usize = 2;
 
 // What a call that has nothing to tell answers.
-#[derive(Drop)]
+#[derive(Clone, Copy)]
 pub enum Answer {
     Done,
     Refused(Refusal),

@@ -5,7 +5,7 @@ use Rattle.std.proofs.Common.{sym, ◌∙◌, inl, inr, arith, eq-eqb, ne_eqb}
 use Rattle.std.proofs.lemmas.Bool.{false≢true}
 use mathlib.Core.List.{List, [], ◌∷◌}
 use Prim.Native.Nat.{ℕ, zero, suc, ◌+◌, ◌<◌, ◌≤◌}
-use Rattle.store.specs.Store.{term_at, step, end_of, WellFormed}
+use Rattle.store.specs.Store.{term_at, end_of, WellFormed}
 use Rattle.store.specs.Steps.{term_used, term_plain}
 use Rattle.store.specs.WellFormed.{end_stays, steps_in}
 use Rattle.trail.specs.State.{State}

@@ -19,7 +19,7 @@ use cell::{Kind, Refusal};
 use trail::Answer;
 
 // What the two calls answer.
-#[derive(Drop)]
+#[derive(Clone, Copy)]
 pub enum Unified {
     Yes,
     No,

@@ -1,15 +1,12 @@
 -- That what the code decides is what the rules of unification say, arm by arm.
 use Rattle.std.proofs.Math.Path.{◌≡◌, refl, sym, ap, subst}
 use Rattle.std.proofs.Common.{◌∙◌, arith}
-use Rattle.std.specs.Prelude.{Bool, false, ◌&&◌, List, [], ◌∷◌, eqb, leb, ℤ}
+use Rattle.std.specs.Prelude.{Bool, false, ◌&&◌, List, eqb, leb, ℤ}
 use Rattle.std.proofs.Math.Bool.{true, false≢true, and-eq-true_iff}
 use Prim.Native.Nat.{ℕ, zero, suc, ◌+◌, ◌<◌}
 use Rattle.std.proofs.Math.Decide.{ℕ_discrete}
 use Rattle.std.proofs.Math.Dec.{ltb}
 use borrow.Author.Tests.{eqb-true, eq-eqb, ne_eqb, ltb-true}
-use types.Run.{OneOf, miss}
-use denote.Enum.Declared.{tag_of}
-use Rattle.cell.specs.contracts.Kind.{the_type}
 use Rattle.cell.specs.declared.Kind.{Kind}
 use Rattle.cell.specs.declared.Kind.TheVariants.{Var, Str, Lis, Atom, Fixnum, Bad}
 use Rattle.store.specs.Store.{kind_at, atom_at, is_atom, keeps, step, step_kind}
@@ -24,8 +21,8 @@ use Rattle.unify.specs.declared.Act.{Act}
 use Rattle.unify.specs.Decided.{Two, AtomCell, is_dot, atom_named, Binding, Nodes, Decided}
 
 -- ---- reading an Atom cell
-pub no_atom_lem : {cells : List ℕ} {f : ℕ} {k : Kind} → AtomCell cells f → k ≡ kind_at cells f → OneOf (0 ∷ 1 ∷ 2 ∷ 4 ∷ 5 ∷ []) (tag_of the_type k) → ⊥
-no_atom_lem a e h = miss (0 ∷ 1 ∷ 2 ∷ 4 ∷ 5 ∷ []) 3 tt (subst (λ (x : Kind). OneOf (0 ∷ 1 ∷ 2 ∷ 4 ∷ 5 ∷ []) (tag_of the_type x)) (e ∙ a.is) h)
+pub no_atom_lem : {cells : List ℕ} {f : ℕ} {k : Kind} → AtomCell cells f → k ≡ kind_at cells f → ((n a : ℕ) → k ≡ Atom n a → ⊥) → ⊥
+no_atom_lem a e h = h _ _ (e ∙ a.is)
 
 both : (x y : Bool) → (x && y) ≡ true → (x ≡ true) × (y ≡ true)
 both x y e = (and-eq-true_iff x y).0 e
@@ -218,12 +215,12 @@ module _ {cells : List ℕ} {v b : ℕ} {k : Kind} (t : Two cells v (Var v) b k)
     vars_high h = record { shows = free w; rules = λ sh classes. shown sh classes ∙ (higher_bound sh classes w v h).1; from = sym (rw (eq-eqb v v refl) (right_var t e)) }
 
   -- any other cell
-  pub var_other : OneOf (1 ∷ 2 ∷ 3 ∷ 4 ∷ 5 ∷ []) (tag_of the_type k) → Binding (view_kind cells (Var v)) (view_kind cells k) v b v b
+  pub var_other : ((w : ℕ) → k ≡ Var w → ⊥) → Binding (view_kind cells (Var v)) (view_kind cells k) v b v b
   unfolding view_kind rule
   var_other h = record { shows = view_kind cells k; rules = by (view_kind cells k) none; from = sym (rw (eq-eqb v v refl)) }
     where
       none : (w : ℕ) → view_kind cells k ≡ free w → ⊥
-      none w q = miss (1 ∷ 2 ∷ 3 ∷ 4 ∷ 5 ∷ []) 0 tt (subst (λ (x : Kind). OneOf (1 ∷ 2 ∷ 3 ∷ 4 ∷ 5 ∷ []) (tag_of the_type x)) (free_var cells t.top t.store k w q) h)
+      none w q = h w (free_var cells t.top t.store k w q)
 
       by : (Y : View) → ((w : ℕ) → Y ≡ free w → ⊥) → (sh : Shape) (classes : ℕ → ℕ) → rule sh classes (free v) Y ≡ bind v Y
       by (free w) n sh classes = absurd (n w refl)
@@ -286,16 +283,16 @@ module _ {cells : List ℕ} {a s b : ℕ} {k : Kind} (t : Two cells a (Str s) b 
   unfolding view_kind
   str_number {z} e = against (number z) (ap (view_kind cells) e) (λ q y. let z : ◌≡◌ {A = ℕ} 0 1 = Prim.cc in omega arith)
 
-  pub str_other : OneOf (4 ∷ 5 ∷ []) (tag_of the_type k) → Apart (shape_of cells) X (view_kind cells k)
-  str_other h = by k refl h
+  pub str_other : ((v : ℕ) → k ≡ Var v → ⊥) → ((f : ℕ) → k ≡ Str f → ⊥) → ((l : ℕ) → k ≡ Lis l → ⊥) → ((n a : ℕ) → k ≡ Atom n a → ⊥) → Apart (shape_of cells) X (view_kind cells k)
+  str_other no_var no_str no_lis no_atom = by k refl
     where
-      by : (q : Kind) → k ≡ q → OneOf (4 ∷ 5 ∷ []) (tag_of the_type q) → Apart (shape_of cells) X (view_kind cells k)
-      by (Var v) e h = absurd (miss (4 ∷ 5 ∷ []) 0 tt h)
-      by (Str v) e h = absurd (miss (4 ∷ 5 ∷ []) 1 tt h)
-      by (Lis v) e h = absurd (miss (4 ∷ 5 ∷ []) 2 tt h)
-      by (Atom n x) e h = absurd (miss (4 ∷ 5 ∷ []) 3 tt h)
-      by (Fixnum z) e h = str_number e
-      by Bad e h = absurd (not_bad t e)
+      by : (q : Kind) → k ≡ q → Apart (shape_of cells) X (view_kind cells k)
+      by (Var v) e = absurd (no_var v e)
+      by (Str v) e = absurd (no_str v e)
+      by (Lis v) e = absurd (no_lis v e)
+      by (Atom n x) e = absurd (no_atom n x e)
+      by (Fixnum z) e = str_number e
+      by Bad e = absurd (not_bad t e)
 
 -- a Str second: the two cells the other way round
 module _ {cells : List ℕ} {a : ℕ} {j : Kind} {b : ℕ} {k : Kind} (t : Two cells a j b k) {s : ℕ} (e : k ≡ Str s) where
@@ -344,17 +341,17 @@ module _ {cells : List ℕ} {a l b : ℕ} {k : Kind} (t : Two cells a (Lis l) b 
     pub lis_not_str : is_dot (kind_at cells s) ≡ false → Apart (shape_of cells) (view_kind cells (Lis l)) (view_kind cells k)
     lis_not_str d = turned_apart t e (str_not_pair (turned t e) refl d)
 
-  pub lis_other : OneOf (3 ∷ 4 ∷ 5 ∷ []) (tag_of the_type k) → Apart (shape_of cells) (view_kind cells (Lis l)) (view_kind cells k)
+  pub lis_other : ((v : ℕ) → k ≡ Var v → ⊥) → ((f : ℕ) → k ≡ Str f → ⊥) → ((m : ℕ) → k ≡ Lis m → ⊥) → Apart (shape_of cells) (view_kind cells (Lis l)) (view_kind cells k)
   unfolding view_kind
-  lis_other h = by k refl h
+  lis_other no_var no_str no_lis = by k refl
     where
-      by : (q : Kind) → k ≡ q → OneOf (3 ∷ 4 ∷ 5 ∷ []) (tag_of the_type q) → Apart (shape_of cells) (nod l) (view_kind cells q)
-      by (Var v) e h = absurd (miss (3 ∷ 4 ∷ 5 ∷ []) 0 tt h)
-      by (Str v) e h = absurd (miss (3 ∷ 4 ∷ 5 ∷ []) 1 tt h)
-      by (Lis v) e h = absurd (miss (3 ∷ 4 ∷ 5 ∷ []) 2 tt h)
-      by (Atom n x) e h = nc l (atom n)
-      by (Fixnum z) e h = nc l (number z)
-      by Bad e h = absurd (not_bad t e)
+      by : (q : Kind) → k ≡ q → Apart (shape_of cells) (nod l) (view_kind cells q)
+      by (Var v) e = absurd (no_var v e)
+      by (Str v) e = absurd (no_str v e)
+      by (Lis v) e = absurd (no_lis v e)
+      by (Atom n x) e = nc l (atom n)
+      by (Fixnum z) e = nc l (number z)
+      by Bad e = absurd (not_bad t e)
 
 -- ---- an atom first
 module _ {cells : List ℕ} {a n x b : ℕ} {k : Kind} (t : Two cells a (Atom n x) b k) where
@@ -376,17 +373,17 @@ module _ {cells : List ℕ} {a n x b : ℕ} {k : Kind} (t : Two cells a (Atom n 
     pub atom_not_str : atom_named n (kind_at cells s) ≡ false → Apart (shape_of cells) (view_kind cells (Atom n x)) (view_kind cells k)
     atom_not_str d = turned_apart t e (str_not_atom (turned t e) refl d)
 
-  pub atom_else : OneOf (2 ∷ 4 ∷ 5 ∷ []) (tag_of the_type k) → Apart (shape_of cells) (view_kind cells (Atom n x)) (view_kind cells k)
+  pub atom_else : ((v : ℕ) → k ≡ Var v → ⊥) → ((f : ℕ) → k ≡ Str f → ⊥) → ((m y : ℕ) → k ≡ Atom m y → ⊥) → Apart (shape_of cells) (view_kind cells (Atom n x)) (view_kind cells k)
   unfolding view_kind
-  atom_else h = by k refl h
+  atom_else no_var no_str no_atom = by k refl
     where
-      by : (q : Kind) → k ≡ q → OneOf (2 ∷ 4 ∷ 5 ∷ []) (tag_of the_type q) → Apart (shape_of cells) (con (atom n)) (view_kind cells q)
-      by (Var v) e h = absurd (miss (2 ∷ 4 ∷ 5 ∷ []) 0 tt h)
-      by (Str v) e h = absurd (miss (2 ∷ 4 ∷ 5 ∷ []) 1 tt h)
-      by (Lis v) e h = cn (atom n) v
-      by (Atom m y) e h = absurd (miss (2 ∷ 4 ∷ 5 ∷ []) 3 tt h)
-      by (Fixnum z) e h = cc (atom n) (number z) (λ q. let y : ◌≡◌ {A = ℕ} 0 1 = Prim.cc in omega arith)
-      by Bad e h = absurd (not_bad t e)
+      by : (q : Kind) → k ≡ q → Apart (shape_of cells) (con (atom n)) (view_kind cells q)
+      by (Var v) e = absurd (no_var v e)
+      by (Str v) e = absurd (no_str v e)
+      by (Lis v) e = cn (atom n) v
+      by (Atom m y) e = absurd (no_atom m y e)
+      by (Fixnum z) e = cc (atom n) (number z) (λ q. let y : ◌≡◌ {A = ℕ} 0 1 = Prim.cc in omega arith)
+      by Bad e = absurd (not_bad t e)
 
 -- ---- a number first
 module _ {cells : List ℕ} {a : ℕ} {n : ℤ} {b : ℕ} {k : Kind} (t : Two cells a (Fixnum n) b k) where
@@ -401,17 +398,17 @@ module _ {cells : List ℕ} {a : ℕ} {n : ℤ} {b : ℕ} {k : Kind} (t : Two ce
   unfolding view_kind
   numbers_apart {m} e d = subst (λ (q : Kind). Apart (shape_of cells) (con (number n)) (view_kind cells q)) (sym e) (cc (number n) (number m) (λ q. d (Prim.cc)))
 
-  pub number_else : OneOf (1 ∷ 2 ∷ 3 ∷ 5 ∷ []) (tag_of the_type k) → Apart (shape_of cells) (view_kind cells (Fixnum n)) (view_kind cells k)
+  pub number_else : ((v : ℕ) → k ≡ Var v → ⊥) → ((z : ℤ) → k ≡ Fixnum z → ⊥) → Apart (shape_of cells) (view_kind cells (Fixnum n)) (view_kind cells k)
   unfolding view_kind
-  number_else h = by k refl h
+  number_else no_var no_number = by k refl
     where
-      by : (q : Kind) → k ≡ q → OneOf (1 ∷ 2 ∷ 3 ∷ 5 ∷ []) (tag_of the_type q) → Apart (shape_of cells) (con (number n)) (view_kind cells q)
-      by (Var v) e h = absurd (miss (1 ∷ 2 ∷ 3 ∷ 5 ∷ []) 0 tt h)
-      by (Str s) e h = apart_swap (str_number (turned t e) refl)
-      by (Lis v) e h = cn (number n) v
-      by (Atom m y) e h = cc (number n) (atom m) (λ q. let y : ◌≡◌ {A = ℕ} 0 1 = Prim.cc in omega arith)
-      by (Fixnum z) e h = absurd (miss (1 ∷ 2 ∷ 3 ∷ 5 ∷ []) 4 tt h)
-      by Bad e h = absurd (not_bad t e)
+      by : (q : Kind) → k ≡ q → Apart (shape_of cells) (con (number n)) (view_kind cells q)
+      by (Var v) e = absurd (no_var v e)
+      by (Str s) e = apart_swap (str_number (turned t e) refl)
+      by (Lis v) e = cn (number n) v
+      by (Atom m y) e = cc (number n) (atom m) (λ q. let y : ◌≡◌ {A = ℕ} 0 1 = Prim.cc in omega arith)
+      by (Fixnum z) e = absurd (no_number z e)
+      by Bad e = absurd (not_bad t e)
 
 -- ---- by the kind of the first
 module _ {cells : List ℕ} {a : ℕ} {j : Kind} {b : ℕ} {k : Kind} (t : Two cells a j b k) where

@@ -18,7 +18,7 @@ ghost use Rattle.unify.specs.Decided.{Two, AtomCell, is_dot, atom_named, Decided
 use cell::{Cell, Kind};
 
 // Whether it found a unifier, and how many trail entries then stand.
-#[derive(Drop)]
+#[derive(Clone, Copy)]
 pub struct Run {
     pub ok: bool,
     pub trailed: usize,
@@ -83,7 +83,7 @@ fn end_of(cells: &[u64], top: usize, work: &mut [u64], i: usize) -> usize
 // What two followed cells ask for: nothing; that the unbound Var `var` gets the word of the cell
 // `from`; that the classes of the nodes `n` and `m` be joined, whose arguments begin at `left` and
 // `right`; or they clash.
-#[derive(Drop)]
+#[derive(Clone, Copy)]
 enum Act {
     Skip,
     Bind {
@@ -103,7 +103,7 @@ enum Act {
 // The name of the list functor, '.'.
 const DOT: u32 = 46;
 
-#[derive(Drop)]
+#[derive(Clone, Copy)]
 struct Functor {
     name: u32,
     arity: usize,
@@ -359,7 +359,7 @@ fn next_act(cells: &[u64], top: usize, work: &mut [u64], pairs: usize) -> Act
 }
 
 // Whether the run goes on, and how many pairs and trail entries then stand.
-#[derive(Drop)]
+#[derive(Clone, Copy)]
 struct Step {
     ok: bool,
     pairs: usize,

@@ -1,0 +1,12 @@
+use mathlib.Core.Path.{◌∙◌}
+use borrow.Author.Tests.{le-leb}
+use Rattle.cycle.specs.Most.{most_enough}
+use Rattle.copy.specs.Copying.{fewer_fit}
+use Rattle.copy.proofs.copy_fits.Goals as goal
+
+pub returns-then-most_room-free : goal.returns-then-most_room-free
+returns-then-most_room-free c =
+    fewer_fit _ _ _ _ c.most_room.ensures (le-leb _ _ c.if-most_room-free.true) (most_enough _ _ c.requires.0 c.args.root) ∙ c.free_cells-free.ensures.1 _
+
+pub returns : goal.returns
+returns c = c.room_within.ensures ∙ c.free_cells-free.ensures.1 _
