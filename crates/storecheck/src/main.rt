@@ -2,10 +2,11 @@
 // are a well-formed store.
 #![tactic(auto)]
 
-ghost use Rattle.std.specs.Prelude.{◌≡◌, ℕ, ◌+◌, ◌*◌, ◌^◌, ◌<◌, ◌≤◌, length, get_or};
+ghost use Rattle.std.specs.Prelude.{◌≡◌, ℕ, ◌+◌, ◌*◌, ◌^◌, ◌<◌, ◌≤◌, length, get_or, IfOk};
 ghost use Rattle.storecheck.specs.Little.{half_at, word_at};
 
-use libc::{STDIN_FILENO, STDOUT_FILENO};
+use std::io;
+use std::io::Read;
 
 const MOST_WORDS: usize = 1024;
 
@@ -41,10 +42,8 @@ fn words(bytes: &[u8], top: usize, cells: &mut [u64])
     requires { (top ≤ length cells.old) × (top * 8 ≤ length bytes.now) }
     ensures { (i : ℕ) → i < top → get_or cells.new i 0 ≡ word_at bytes.now (i * 8) }
 {
-    let mut i = 0;
-    while i < top {
+    for i in 0..top {
         cells[i] = word_at(bytes, i * 8);
-        i += 1;
     }
 }
 
@@ -57,32 +56,42 @@ fn check(cells: &[u64], top: usize) -> u64
     engine::trisculap_check(used, top, none, 0, none, 0)
 }
 
-fn say(text: &[u8]) {
-    io::write_all(STDOUT_FILENO, text);
+// Reads until the bytes are full or the input ends; tells how many it read.
+fn read_full(input: &mut impl Read, bytes: &mut [u8]) -> io::Result<usize>
+    ensures { IfOk result (λ n. n ≤ length bytes.new) }
+{
+    let mut done = 0;
+    while done < bytes.len() {
+        let n = input.read(&mut bytes[done..])?;
+        if n == 0 {
+            break;
+        }
+        done += n;
+    }
+    Ok(done)
 }
 
-fn main() {
+fn say(rt: &impl Print, text: &[u8]) -> io::Result<()> {
+    rt.write_all(text)
+}
+
+fn main(rt: HostRuntime) -> io::Result<()> {
     let mut bytes = [0u8; 8193];
-    let n = io::read_full(STDIN_FILENO, &mut bytes);
+    let n = read_full(&mut rt.stdin(), &mut bytes)?;
     if MOST_BYTES < n {
-        say(b"too long\n");
-        return;
+        return say(&rt, b"too long\n");
     }
     if n % 8 != 0 {
-        say(b"odd length\n");
-        return;
+        return say(&rt, b"odd length\n");
     }
     let top = n / 8;
     let mut cells = [0u64; MOST_WORDS];
     words(&bytes, top, &mut cells);
-    say(b"cells ");
-    io::print_decimal(STDOUT_FILENO, top as u64);
+    print!(rt; "cells {top}")?;
     let returned = check(&cells, top);
     if returned == 0 {
-        say(b": well formed\n");
+        say(&rt, b": well formed\n")
     } else {
-        say(b": refused ");
-        io::print_decimal(STDOUT_FILENO, returned);
-        say(b"\n");
+        println!(rt; ": refused {returned}")
     }
 }

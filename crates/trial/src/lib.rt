@@ -2,7 +2,7 @@
 // calls on real words and prints what they answer and leave; its file `stdout` says what that must be.
 #![tactic(auto)]
 
-use libc::STDOUT_FILENO;
+use std::io;
 
 // The words that the trials are made of: a tag to add a cell number to, and atoms with their arity.
 pub const VAR: u64 = 0x0400_0000_0000_0000;
@@ -21,134 +21,127 @@ pub const G_1: u64 = 0x1000_0001_0000_0067;
 
 pub const F_2: u64 = 0x1000_0002_0000_0066;
 
-pub fn say(text: &[u8]) {
-    io::write_all(STDOUT_FILENO, text);
+pub fn say(rt: &impl Print, text: &[u8]) -> io::Result<()> {
+    rt.write_all(text)
 }
 
-pub fn number(n: usize) {
-    io::print_decimal(STDOUT_FILENO, n as u64);
+pub fn number(rt: &impl Print, n: usize) -> io::Result<()> {
+    rt.print(n)
 }
 
 // A word in hexadecimal; 0 as it is.
-pub fn word(w: u64) {
+pub fn word(rt: &impl Print, w: u64) -> io::Result<()> {
     if w == 0 {
-        say(b"0");
+        say(rt, b"0")
     } else {
-        io::print_hex(STDOUT_FILENO, w, 16);
+        print!(rt; "{w:016x}")
     }
 }
 
 // "refused" and its number.
-fn refused(returned: u64) {
-    say(b"refused ");
-    io::print_decimal(STDOUT_FILENO, returned);
+fn refused(rt: &impl Print, returned: u64) -> io::Result<()> {
+    print!(rt; "refused {returned}")
 }
 
 // What a call that has nothing to tell returned.
-pub fn done(returned: u64) {
+pub fn done(rt: &impl Print, returned: u64) -> io::Result<()> {
     if returned == 0 {
-        say(b"done");
+        say(rt, b"done")
     } else {
-        refused(returned);
+        refused(rt, returned)
     }
 }
 
 // What a call that tells a word returned and told.
-pub fn told(returned: u64, w: u64) {
+pub fn told(rt: &impl Print, returned: u64, w: u64) -> io::Result<()> {
     if returned == 0 {
-        say(b"word ");
-        word(w);
+        say(rt, b"word ")?;
+        word(rt, w)
     } else {
-        refused(returned);
+        refused(rt, returned)
     }
 }
 
 // What a call that tells a number returned, and the number behind its name.
-pub fn numbered(name: &[u8], returned: u64, n: usize) {
+pub fn numbered(rt: &impl Print, name: &[u8], returned: u64, n: usize) -> io::Result<()> {
     if returned == 0 {
-        say(name);
-        number(n);
+        say(rt, name)?;
+        number(rt, n)
     } else {
-        refused(returned);
+        refused(rt, returned)
     }
 }
 
 // What a call that says yes or no returned and said.
-pub fn decided(yes: &[u8], no: &[u8], returned: u64, answer: u64) {
+pub fn decided(
+    rt: &impl Print,
+    yes: &[u8],
+    no: &[u8],
+    returned: u64,
+    answer: u64,
+) -> io::Result<()> {
     if returned != 0 {
-        refused(returned);
+        refused(rt, returned)
     } else if answer == 1 {
-        say(yes);
+        say(rt, yes)
     } else {
-        say(no);
+        say(rt, no)
     }
 }
 
-pub fn line() {
-    say(b"\n");
+pub fn line(rt: &impl Print) -> io::Result<()> {
+    println!(rt)
 }
 
-fn spaced(w: u64) {
-    say(b" ");
-    word(w);
+fn spaced(rt: &impl Print, w: u64) -> io::Result<()> {
+    say(rt, b" ")?;
+    word(rt, w)
 }
 
 // A list of words, each in hexadecimal.
-pub fn words(name: &[u8], list: &[u64]) {
-    say(name);
-    let mut i = 0;
-    while i < list.len() {
-        spaced(list[i]);
-        i += 1;
+pub fn words(rt: &impl Print, name: &[u8], list: &[u64]) -> io::Result<()> {
+    say(rt, name)?;
+    for w in list {
+        spaced(rt, *w)?;
     }
-    line();
+    line(rt)
 }
 
-fn spaced_number(w: u64) {
-    say(b" ");
-    io::print_decimal(STDOUT_FILENO, w);
+fn spaced_number(rt: &impl Print, w: u64) -> io::Result<()> {
+    print!(rt; " {w}")
 }
 
 // A list of words, each as a number.
-pub fn numbers(name: &[u8], list: &[u64]) {
-    say(name);
-    let mut i = 0;
-    while i < list.len() {
-        spaced_number(list[i]);
-        i += 1;
+pub fn numbers(rt: &impl Print, name: &[u8], list: &[u64]) -> io::Result<()> {
+    say(rt, name)?;
+    for w in list {
+        spaced_number(rt, *w)?;
     }
-    line();
+    line(rt)
 }
 
 // How many words at the start are 0.
 pub fn zeros(words: &[u64]) -> usize {
-    let mut i = 0;
-    while i < words.len() {
-        if words[i] != 0 {
+    for (i, w) in words.iter().enumerate() {
+        if *w != 0 {
             return i;
         }
-        i += 1;
     }
-    i
+    words.len()
 }
 
 // All lent words and all counts.
 pub fn state(
+    rt: &impl Print,
     cells: &[u64],
     top: usize,
     trail: &[u64],
     trailed: usize,
     marks: &[u64],
     marked: usize,
-) {
-    say(b"  top ");
-    number(top);
-    say(b", trail count ");
-    number(trailed);
-    say(b", marks ");
-    number(marked);
-    say(b"\n");
-    words(b"  cells", cells);
-    numbers(b"  trail", trail);
-    numbers(b"  marks", marks);
+) -> io::Result<()> {
+    println!(rt; "  top {top}, trail count {trailed}, marks {marked}")?;
+    words(rt, b"  cells", cells)?;
+    numbers(rt, b"  trail", trail)?;
+    numbers(rt, b"  marks", marks)
 }

@@ -9,21 +9,23 @@ mod flips;
 mod room;
 mod run;
 
-fn main() {
-    cells::bench_lines();
-    cells::cell_rules();
-    cells::follows();
-    cells::numbers();
-    flips::heap_b();
-    books::trails();
-    books::marks();
-    run::history();
-    run::left_broken();
-    room::limits();
-    chains::rings();
-    chains::tails();
-    chains::turns();
-    chains::sizes();
-    chains::appends();
-    chains::rollbacks();
+use std::io;
+
+fn main(rt: HostRuntime) -> io::Result<()> {
+    cells::bench_lines(&rt)?;
+    cells::cell_rules(&rt)?;
+    cells::follows(&rt)?;
+    cells::numbers(&rt)?;
+    flips::heap_b(&rt)?;
+    books::trails(&rt)?;
+    books::marks(&rt)?;
+    run::history(&rt)?;
+    run::left_broken(&rt)?;
+    room::limits(&rt)?;
+    chains::rings(&rt)?;
+    chains::tails(&rt)?;
+    chains::turns(&rt)?;
+    chains::sizes(&rt)?;
+    chains::appends(&rt)?;
+    chains::rollbacks(&rt)
 }

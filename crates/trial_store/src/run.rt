@@ -1,5 +1,6 @@
 // A history of calls on one store, with all lent words after each; and stores that a rollback would
 // break.
+use std::io;
 use trial::{A, G_1, LIS, STR, VAR, line, say};
 
 // All lent words and counts.
@@ -13,14 +14,14 @@ pub struct Book {
     pub marked: usize,
 }
 
-fn numbered(name: &[u8], returned: u64, n: usize) {
-    trial::numbered(name, returned, n);
-    line();
+fn numbered(rt: &impl Print, name: &[u8], returned: u64, n: usize) -> io::Result<()> {
+    trial::numbered(rt, name, returned, n)?;
+    line(rt)
 }
 
-fn done(returned: u64) {
-    trial::done(returned);
-    line();
+fn done(rt: &impl Print, returned: u64) -> io::Result<()> {
+    trial::done(rt, returned)?;
+    line(rt)
 }
 
 impl Book {
@@ -35,27 +36,35 @@ impl Book {
         }
     }
 
-    fn show(self) -> Book {
+    fn show(self, rt: &impl Print) -> io::Result<Book> {
         let cells = self.cells;
         let trail = self.trail;
         let marks = self.marks;
-        trial::state(&cells, self.top, &trail, self.trailed, &marks, self.marked);
-        self
+        trial::state(
+            rt,
+            &cells,
+            self.top,
+            &trail,
+            self.trailed,
+            &marks,
+            self.marked,
+        )?;
+        Ok(self)
     }
 
-    fn append(self, name: &[u8], words: &[u64]) -> Book {
+    fn append(self, rt: &impl Print, name: &[u8], words: &[u64]) -> io::Result<Book> {
         let mut cells = self.cells;
         let mut top = self.top;
         let trail = self.trail;
         let trailed = self.trailed;
         let marks = self.marks;
         let marked = self.marked;
-        say(name);
+        say(rt, name)?;
         let mut at: usize = 0;
         let r = engine::trisculap_append(
             &mut cells, &mut top, &trail, trailed, &marks, marked, words, &mut at,
         );
-        numbered(b"at ", r, at);
+        numbered(rt, b"at ", r, at)?;
         Book {
             cells,
             top,
@@ -64,17 +73,17 @@ impl Book {
             marks,
             marked,
         }
-        .show()
+        .show(rt)
     }
 
-    fn mark(self, name: &[u8]) -> Book {
+    fn mark(self, rt: &impl Print, name: &[u8]) -> io::Result<Book> {
         let cells = self.cells;
         let top = self.top;
         let trail = self.trail;
         let trailed = self.trailed;
         let mut marks = self.marks;
         let mut marked = self.marked;
-        say(name);
+        say(rt, name)?;
         let mut n: usize = 0;
         let r = engine::trisculap_mark(
             &cells,
@@ -85,7 +94,7 @@ impl Book {
             &mut marked,
             &mut n,
         );
-        numbered(b"mark ", r, n);
+        numbered(rt, b"mark ", r, n)?;
         Book {
             cells,
             top,
@@ -94,18 +103,21 @@ impl Book {
             marks,
             marked,
         }
-        .show()
+        .show(rt)
     }
 
-    fn cut(self, name: &[u8], k: usize) -> Book {
+    fn cut(self, rt: &impl Print, name: &[u8], k: usize) -> io::Result<Book> {
         let cells = self.cells;
         let top = self.top;
         let trail = self.trail;
         let trailed = self.trailed;
         let mut marks = self.marks;
         let mut marked = self.marked;
-        say(name);
-        done(engine::trisculap_cut(&cells, top, &trail, trailed, &mut marks, &mut marked, k));
+        say(rt, name)?;
+        done(
+            rt,
+            engine::trisculap_cut(&cells, top, &trail, trailed, &mut marks, &mut marked, k),
+        )?;
         Book {
             cells,
             top,
@@ -114,26 +126,29 @@ impl Book {
             marks,
             marked,
         }
-        .show()
+        .show(rt)
     }
 
-    fn rollback(self, name: &[u8], k: usize) -> Book {
+    fn rollback(self, rt: &impl Print, name: &[u8], k: usize) -> io::Result<Book> {
         let mut cells = self.cells;
         let mut top = self.top;
         let mut trail = self.trail;
         let mut trailed = self.trailed;
         let mut marks = self.marks;
         let mut marked = self.marked;
-        say(name);
-        done(engine::trisculap_rollback(
-            &mut cells,
-            &mut top,
-            &mut trail,
-            &mut trailed,
-            &mut marks,
-            &mut marked,
-            k,
-        ));
+        say(rt, name)?;
+        done(
+            rt,
+            engine::trisculap_rollback(
+                &mut cells,
+                &mut top,
+                &mut trail,
+                &mut trailed,
+                &mut marks,
+                &mut marked,
+                k,
+            ),
+        )?;
         Book {
             cells,
             top,
@@ -142,7 +157,7 @@ impl Book {
             marks,
             marked,
         }
-        .show()
+        .show(rt)
     }
 
     // Cell 1 gets the word of `a` by hand, and is trailed.
@@ -155,29 +170,38 @@ impl Book {
 }
 
 // Two marks, with a cell bound between them; refusals; and back to each mark.
-pub fn history() {
+pub fn history(rt: &impl Print) -> io::Result<()> {
     let b = Book::fresh().append(
+        rt,
         b"append Var 1, Str 3, g/1, Var 4: ",
         &[VAR + 1, STR + 3, G_1, VAR + 4],
-    );
-    let b = b.mark(b"mark: ").append(b"append a: ", &[A]);
-    let b = b.bind_first().mark(b"mark, with cell 1 bound: ");
-    let b = b.mark(b"mark with no room: ");
-    let b = b.append(b"append Lis 7, a, a: ", &[LIS + 7, A, A]);
-    let b = b.append(b"append Str 2: ", &[STR + 2]);
-    let b = b.append(b"append a, a: ", &[A, A]);
-    let b = b.append(b"append none: ", &[]);
-    let b = b.cut(b"cut to 3: ", 3);
-    let b = b.rollback(b"rollback to 0: ", 0);
-    let b = b.rollback(b"rollback to 3: ", 3);
-    let b = b.rollback(b"rollback to 2: ", 2);
-    let b = b.cut(b"cut to 1: ", 1);
-    let b = b.rollback(b"rollback to 1: ", 1);
-    b.cut(b"cut to 0: ", 0);
+    )?;
+    let b = b.mark(rt, b"mark: ")?.append(rt, b"append a: ", &[A])?;
+    let b = b.bind_first().mark(rt, b"mark, with cell 1 bound: ")?;
+    let b = b.mark(rt, b"mark with no room: ")?;
+    let b = b.append(rt, b"append Lis 7, a, a: ", &[LIS + 7, A, A])?;
+    let b = b.append(rt, b"append Str 2: ", &[STR + 2])?;
+    let b = b.append(rt, b"append a, a: ", &[A, A])?;
+    let b = b.append(rt, b"append none: ", &[])?;
+    let b = b.cut(rt, b"cut to 3: ", 3)?;
+    let b = b.rollback(rt, b"rollback to 0: ", 0)?;
+    let b = b.rollback(rt, b"rollback to 3: ", 3)?;
+    let b = b.rollback(rt, b"rollback to 2: ", 2)?;
+    let b = b.cut(rt, b"cut to 1: ", 1)?;
+    let b = b.rollback(rt, b"rollback to 1: ", 1)?;
+    b.cut(rt, b"cut to 0: ", 0)?;
+    Ok(())
 }
 
 // 0, Str 2, g/1, Var 4, a; one trail entry, used or not; one mark of these counts.
-fn broken(name: &[u8], entry: u64, trailed: usize, t: u64, c: u64) {
+fn broken(
+    rt: &impl Print,
+    name: &[u8],
+    entry: u64,
+    trailed: usize,
+    t: u64,
+    c: u64,
+) -> io::Result<()> {
     let b = Book {
         cells: [0, STR + 2, G_1, VAR + 4, A, 0, 0, 0, 0, 0],
         top: 5,
@@ -186,14 +210,29 @@ fn broken(name: &[u8], entry: u64, trailed: usize, t: u64, c: u64) {
         marks: [t, c, 0, 0, 0],
         marked: 1,
     };
-    b.rollback(name, 1);
+    b.rollback(rt, name, 1)?;
+    Ok(())
 }
 
-pub fn left_broken() {
-    broken(b"rollback to a top of 0: ", 0, 0, 0, 0);
-    broken(b"rollback into a run: ", 0, 0, 3, 0);
-    broken(b"rollback below the cell that a Var names: ", 0, 0, 4, 0);
-    broken(b"rollback below a trail entry that stays: ", 4, 1, 4, 1);
-    broken(b"rollback that unbinds a header: ", 2, 1, 5, 0);
-    broken(b"rollback that unbinds the Var and drops a: ", 3, 1, 4, 0);
+pub fn left_broken(rt: &impl Print) -> io::Result<()> {
+    broken(rt, b"rollback to a top of 0: ", 0, 0, 0, 0)?;
+    broken(rt, b"rollback into a run: ", 0, 0, 3, 0)?;
+    broken(
+        rt,
+        b"rollback below the cell that a Var names: ",
+        0,
+        0,
+        4,
+        0,
+    )?;
+    broken(rt, b"rollback below a trail entry that stays: ", 4, 1, 4, 1)?;
+    broken(rt, b"rollback that unbinds a header: ", 2, 1, 5, 0)?;
+    broken(
+        rt,
+        b"rollback that unbinds the Var and drops a: ",
+        3,
+        1,
+        4,
+        0,
+    )
 }

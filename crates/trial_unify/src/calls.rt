@@ -1,4 +1,5 @@
 // One call, and a line that says what it answered and left.
+use std::io;
 use trial::{line, number, say};
 
 // The two kinds of call.
@@ -6,27 +7,36 @@ pub const PLAIN: bool = false;
 
 pub const CHECKED: bool = true;
 
-pub fn answer(returned: u64, yes: u64) {
-    trial::decided(b"yes", b"no unifier", returned, yes);
+pub fn answer(rt: &impl Print, returned: u64, yes: u64) -> io::Result<()> {
+    trial::decided(rt, b"yes", b"no unifier", returned, yes)
 }
 
 // The roots, the answer, the trail count, and how many work words at the start are 0.
-fn report(returned: u64, yes: u64, trailed: usize, work: &[u64], a: usize, b: usize) {
-    say(b"(");
-    number(a);
-    say(b", ");
-    number(b);
-    say(b"): ");
-    answer(returned, yes);
-    say(b", trail count ");
-    number(trailed);
-    say(b", work words 0: ");
-    number(trial::zeros(work));
-    line();
+fn report(
+    rt: &impl Print,
+    returned: u64,
+    yes: u64,
+    trailed: usize,
+    work: &[u64],
+    a: usize,
+    b: usize,
+) -> io::Result<()> {
+    say(rt, b"(")?;
+    number(rt, a)?;
+    say(rt, b", ")?;
+    number(rt, b)?;
+    say(rt, b"): ")?;
+    answer(rt, returned, yes)?;
+    say(rt, b", trail count ")?;
+    number(rt, trailed)?;
+    say(rt, b", work words 0: ")?;
+    number(rt, trial::zeros(work))?;
+    line(rt)
 }
 
 // One call of either kind, plain or checked.
 pub fn call(
+    rt: &impl Print,
     name: &[u8],
     kind: bool,
     cells: &mut [u64],
@@ -36,11 +46,11 @@ pub fn call(
     work: &mut [u64],
     a: usize,
     b: usize,
-) {
-    say(name);
+) -> io::Result<()> {
+    say(rt, name)?;
     let mut yes = 0;
     if kind == CHECKED {
-        say(b", checked ");
+        say(rt, b", checked ")?;
         let r = engine::trisculap_unify_checked(
             cells,
             top,
@@ -53,10 +63,10 @@ pub fn call(
             b,
             &mut yes,
         );
-        report(r, yes, *trailed, work, a, b);
+        report(rt, r, yes, *trailed, work, a, b)
     } else {
-        say(b", plain ");
+        say(rt, b", plain ")?;
         let r = engine::trisculap_unify(cells, top, trail, trailed, &[], 0, work, a, b, &mut yes);
-        report(r, yes, *trailed, work, a, b);
+        report(rt, r, yes, *trailed, work, a, b)
     }
 }

@@ -7,22 +7,24 @@ mod heaps;
 mod large;
 mod refusals;
 
-fn main() {
-    heaps::heap_b();
-    heaps::other_heaps();
-    heaps::kinds();
-    heaps::variables();
-    heaps::entries();
-    heaps::occurs();
-    refusals::cells();
-    refusals::trails();
-    refusals::roots();
-    refusals::rooms();
-    refusals::cycles();
-    refusals::lowest();
-    large::periods();
-    large::doubling();
-    large::overlapping();
-    large::chains();
-    large::lists();
+use std::io;
+
+fn main(rt: HostRuntime) -> io::Result<()> {
+    heaps::heap_b(&rt)?;
+    heaps::other_heaps(&rt)?;
+    heaps::kinds(&rt)?;
+    heaps::variables(&rt)?;
+    heaps::entries(&rt)?;
+    heaps::occurs(&rt)?;
+    refusals::cells(&rt)?;
+    refusals::trails(&rt)?;
+    refusals::roots(&rt)?;
+    refusals::rooms(&rt)?;
+    refusals::cycles(&rt)?;
+    refusals::lowest(&rt)?;
+    large::periods(&rt)?;
+    large::doubling(&rt)?;
+    large::overlapping(&rt)?;
+    large::chains(&rt)?;
+    large::lists(&rt)
 }

@@ -4,9 +4,10 @@
 // CALL is 1 plain, 2 checked, 3 copy, 4 cyclic; cell 0 is left out of the cells; 0 ends the list.
 #![tactic(auto)]
 
-ghost use Rattle.std.specs.Prelude.{◌≤◌};
+ghost use Rattle.std.specs.Prelude.{◌≤◌, length, IfOk};
 
-use libc::STDIN_FILENO;
+use std::io;
+use std::io::Read;
 use trial::{number, say};
 
 const MOST_BYTES: usize = 0x4_0000;
@@ -88,26 +89,22 @@ fn read_list(text: &[u8], at: usize, without: usize) -> List {
     let n = read(text, at);
     let len = n.value as usize;
     let mut next = n.next;
-    let mut i = without;
-    while i < len {
+    for i in without..len {
         if MOST_WORDS <= i {
-            return List { words, len, next };
+            break;
         }
         let w = read(text, next);
         words[i] = w.value;
         next = w.next;
-        i += 1;
     }
     List { words, len, next }
 }
 
 fn same(xs: &[u64; MOST_WORDS], ys: &[u64; MOST_WORDS]) -> bool {
-    let mut i = 0;
-    while i < MOST_WORDS {
+    for i in 0..MOST_WORDS {
         if xs[i] != ys[i] {
             return false;
         }
-        i += 1;
     }
     true
 }
@@ -217,19 +214,19 @@ fn replayed(text: &[u8], call: Number) -> Row {
 }
 
 // 1 for a row that came out otherwise than written, with a line about it.
-fn counted(row: usize, right: bool) -> usize
-    ensures { result ≤ 1 }
+fn counted(rt: &impl Print, row: usize, right: bool) -> io::Result<usize>
+    ensures { IfOk result (λ n. n ≤ 1) }
 {
     if right {
-        return 0;
+        return Ok(0);
     }
-    say(b"different: row ");
-    number(row);
-    say(b"\n");
-    1
+    say(rt, b"different: row ")?;
+    number(rt, row)?;
+    say(rt, b"\n")?;
+    Ok(1)
 }
 
-fn replay(text: &[u8]) {
+fn replay(rt: &impl Print, text: &[u8]) -> io::Result<()> {
     let mut rows: usize = 0;
     let mut different: usize = 0;
     let mut at = 0;
@@ -242,19 +239,34 @@ fn replay(text: &[u8]) {
         if row.next <= at {
             break;
         }
-        different += counted(rows, row.right);
+        different += counted(rt, rows, row.right)?;
         rows += 1;
         at = row.next;
     }
-    say(b"rows ");
-    number(rows);
-    say(b", different ");
-    number(different);
-    say(b"\n");
+    say(rt, b"rows ")?;
+    number(rt, rows)?;
+    say(rt, b", different ")?;
+    number(rt, different)?;
+    say(rt, b"\n")
 }
 
-fn main() {
+// Reads until the bytes are full or the input ends; tells how many it read.
+fn read_full(input: &mut impl Read, bytes: &mut [u8]) -> io::Result<usize>
+    ensures { IfOk result (λ n. n ≤ length bytes.new) }
+{
+    let mut done = 0;
+    while done < bytes.len() {
+        let n = input.read(&mut bytes[done..])?;
+        if n == 0 {
+            break;
+        }
+        done += n;
+    }
+    Ok(done)
+}
+
+fn main(rt: HostRuntime) -> io::Result<()> {
     let mut text = [0u8; MOST_BYTES];
-    let n = io::read_full(STDIN_FILENO, &mut text);
-    replay(&text[..n]);
+    let n = read_full(&mut rt.stdin(), &mut text)?;
+    replay(&rt, &text[..n])
 }
