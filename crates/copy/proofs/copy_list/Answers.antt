@@ -4,7 +4,6 @@ use Rattle.copy.specs.Arms.{act_lis}
 use native.Mathlib.Omega.{arith}
 use Rattle.copy.proofs.copy_list.Goals as goal
 
--- from the run added back to the call
 pub overflow_add-i : goal.overflow_add-i
 unfolding Can
 overflow_add-i c = let s = c.requires.0 in let b = c.requires.1 in let l = s.low in let h = s.high in omega arith

@@ -8,7 +8,6 @@ use native.Mathlib.Omega.{arith}
 use Rattle.copy.proofs.copy_root.Goals as goal
 use Rattle.copy.proofs.copy_root.Goals.{Start}
 
--- the places back to the call: the scan done, the first cell put, the words cleared
 root_in : (c : Start) → c.args.root < length c.args.cells.now
 root_in c =
     let g = c.requires.0 in

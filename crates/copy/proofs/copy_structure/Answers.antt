@@ -4,7 +4,6 @@ use Rattle.copy.specs.Arms.{act_str}
 use native.Mathlib.Omega.{arith}
 use Rattle.copy.proofs.copy_structure.Goals as goal
 
--- the place back to the call
 pub add_structure-e-requires : goal.add_structure-e-requires
 unfolding Can
 add_structure-e-requires c =

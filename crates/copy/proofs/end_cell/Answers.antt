@@ -7,7 +7,6 @@ use Rattle.copy.specs.Arms.{end_var, end_other}
 use native.Mathlib.Omega.{arith}
 use Rattle.copy.proofs.end_cell.Goals as goal
 
--- from the scanned cell read back to the call
 pub read_cell-c-requires : goal.read_cell-c-requires
 read_cell-c-requires c = let o = c.requires in o.inside
 

@@ -3,7 +3,6 @@ use Rattle.copy.specs.Asks.{follows}
 use Rattle.copy.specs.Turn.{turn_sound, turn_can, turn_is, turn_kept, turn_ready}
 use Rattle.copy.proofs.scan_cell.Goals as goal
 
--- from the cell found back to the call
 pub end_cell-c-requires : goal.end_cell-c-requires
 end_cell-c-requires c = let o = c.requires in follows _ _ _ _ _ o.0 o.1
 

@@ -1,4 +1,5 @@
 use mathlib.Core.Path.{refl}
+use Prim.Native.Nat.{◌≤◌}
 use native.Mathlib.Omega.{arith}
 use Rattle.store.specs.Store.{limit}
 use Rattle.store.specs.Zeros.{zero_at}
@@ -8,7 +9,8 @@ use Rattle.cycle.proofs.either_cyclic.Goals as goal
 pub either_walked-requires : goal.either_walked-requires
 either_walked-requires c =
     let p = c.requires in
-    (p.0, p.1, p.2, fresh _ _ small _ _ _ c.if-top-le-SMALL.true (omega arith) refl refl refl, zero_at small)
+    let t : c.args.top ≤ small = omega arith in
+    (p.0, p.1, p.2, fresh _ _ small _ _ _ t (omega arith) refl refl refl, zero_at small)
 
 pub either_walked-requires-2 : goal.either_walked-requires-2
 either_walked-requires-2 c =

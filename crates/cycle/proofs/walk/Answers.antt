@@ -6,7 +6,7 @@ use Rattle.store.specs.Store.{limit, WellFormed}
 use Rattle.cycle.proofs.Walking.{landed, room_for, from_start}
 use Rattle.cycle.proofs.Going.{same_size, started, summed_all, inside, taken, over_done, over_back, down, less_down, up, less_up, ended}
 use Rattle.cycle.proofs.walk.Goals as goal
-use Rattle.cycle.proofs.walk.Goals.{After-loop-sp, After-slice_known-3-1, Else-next-end, In-0, In-loop-sp, Then-next-end}
+use Rattle.cycle.proofs.walk.Goals.{After-loop-sp, Start, Else-next-end, In-0, In-loop-sp, Then-next-end}
 
 -- in a turn
 formed : (c : In-loop-sp) → let a = c.args in WellFormed a.cells.now a.top
@@ -52,9 +52,8 @@ back_to c =
     let le = l.invariant.ends_long in
     (omega arith, omega arith, omega arith, omega arith, omega arith, omega arith)
 
--- the last of the three colours
 -- before the loop: the tables have a place for the root
-entry : (c : After-slice_known-3-1) → let a = c.args in (a.root + 1 ≤ limit) × (a.root < length a.col.now) × (0 < length a.nexts.now) × (0 < length a.ends.now)
+entry : (c : Start) → let a = c.args in (a.root + 1 ≤ limit) × (a.root < length a.col.now) × (0 < length a.nexts.now) × (0 < length a.ends.now)
 entry c =
     let p = c.requires in
     let t = p.3 in
@@ -66,25 +65,25 @@ entry c =
     (omega arith, omega arith, omega arith, omega arith)
 
 pub bounds-col-root : goal.bounds-col-root
-bounds-col-root c = let e = entry c in omega arith
+bounds-col-root c = let e = entry (goal.at.bounds-col-root c).Start in omega arith
 
 pub overflow_add-nexts : goal.overflow_add-nexts
-overflow_add-nexts c = let e = entry c in omega arith
+overflow_add-nexts c = let e = entry (goal.at.overflow_add-nexts c).Start in omega arith
 
 pub overflow_cast-nexts : goal.overflow_cast-nexts
-overflow_cast-nexts c = let e = entry c in omega arith
+overflow_cast-nexts c = let e = entry (goal.at.overflow_cast-nexts c).Start in omega arith
 
 pub bounds-nexts-0 : goal.bounds-nexts-0
-bounds-nexts-0 c = let e = entry c in omega arith
+bounds-nexts-0 c = let e = entry (goal.at.bounds-nexts-0 c).Start in omega arith
 
 pub overflow_add-ends : goal.overflow_add-ends
-overflow_add-ends c = let e = entry c in omega arith
+overflow_add-ends c = let e = entry (goal.at.overflow_add-ends c).Start in omega arith
 
 pub overflow_cast-ends : goal.overflow_cast-ends
-overflow_cast-ends c = let e = entry c in omega arith
+overflow_cast-ends c = let e = entry (goal.at.overflow_cast-ends c).Start in omega arith
 
 pub bounds-ends-0 : goal.bounds-ends-0
-bounds-ends-0 c = let e = entry c in omega arith
+bounds-ends-0 c = let e = entry (goal.at.bounds-ends-0 c).Start in omega arith
 
 pub links_of-first-requires : goal.links_of-first-requires
 links_of-first-requires c = let p = c.requires in (p.0, p.1, p.2)

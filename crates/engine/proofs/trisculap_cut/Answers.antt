@@ -1,6 +1,5 @@
 use Rattle.engine.specs.Coded.{coded_by}
 use Rattle.engine.proofs.trisculap_cut.Goals as goal
 
--- the inner call
 pub returns : goal.returns
 returns c = coded_by c.cut.ensures c.code.ensures

@@ -8,6 +8,5 @@ returns-in-Yes c = rw (← c.cycle_verdict.ensures, c.in-Yes.is)
 pub returns-in-No : goal.returns-in-No
 returns-in-No c = rw (← c.cycle_verdict.ensures, c.in-No.is)
 
--- the inner call
 pub returns-in-Refused : goal.returns-in-Refused
 returns-in-Refused c = decides_refused (ap said_verdict c.cycle_verdict.ensures) _ (ap said_verdict c.in-Refused.is) c.refusal_number.ensures

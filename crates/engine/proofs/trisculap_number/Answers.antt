@@ -9,10 +9,8 @@ use Rattle.engine.proofs.trisculap_number.Goals.{After-number_cell}
 made : (c : After-number_cell) → c.number_cell.result ≡ number_cell c.args.n
 made c = c.number_cell.ensures ∙ ap number_cell (to_z-of_z c.ranges.n)
 
--- the inner call
 pub returns-in-Word : goal.returns-in-Word
 returns-in-Word c = tells_done (ap said_word (made (goal.at.returns-in-Word c).After-number_cell)) _ (ap said_word c.in-Word.is)
 
--- the inner call
 pub returns-in-Refused : goal.returns-in-Refused
 returns-in-Refused c = tells_refused (ap said_word (made (goal.at.returns-in-Refused c).After-number_cell)) _ (ap said_word c.in-Refused.is) c.refusal_number.ensures

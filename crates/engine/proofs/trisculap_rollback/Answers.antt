@@ -1,6 +1,5 @@
 use Rattle.engine.specs.Coded.{coded_by}
 use Rattle.engine.proofs.trisculap_rollback.Goals as goal
 
--- the inner call
 pub returns : goal.returns
 returns c = coded_by c.rollback.ensures c.code.ensures

@@ -3,7 +3,6 @@ use Rattle.unifier.specs.Answers.{said_of}
 use mathlib.Core.Path.{ap}
 use Rattle.engine.proofs.trisculap_unify.Goals as goal
 
--- the inner call, behind each answer
 pub returns-in-Yes : goal.returns-in-Yes
 returns-in-Yes c = decided_yes c.unify.ensures _ (ap said_of c.in-Yes.is)
 

@@ -30,7 +30,6 @@ zero_to-requires c =
     let g = p.held.trail_good_lem in
     ((lowers_to _ _ p n.0 n.1).names.order, g.fits, g.rest)
 
--- where the marks are cut down: the check's answer, and the start
 pub overflow_mul-k : goal.overflow_mul-k
 overflow_mul-k c = let p = past (goal.at.overflow_mul-k c).In_default in let f = p.held.marks_good_lem.fits in let h = p.high in omega (arith, c.well_formed)
 

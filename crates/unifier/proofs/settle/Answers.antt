@@ -3,7 +3,6 @@ use native.Mathlib.Omega.{arith}
 use Rattle.unifier.specs.Settling.{begins, yes_store, undoable, still_accepts, settled_yes, settled_no}
 use Rattle.unifier.proofs.settle.Goals as goal
 
--- the places back to the call: past the run, and past the cleared buffer
 pub unify_internal-run-requires : goal.unify_internal-run-requires
 unify_internal-run-requires c = begins _ _ _ _ _ c.requires
 

@@ -5,7 +5,6 @@ use Rattle.chains.specs.Hops.{chained}
 use Rattle.unify.specs.Following.{followed_none, mid_asks, followed_part, end_here, next_asks, end_next}
 use Rattle.unify.proofs.end_of.Goals as goal
 
--- back from where the next cell is known
 pub step_of-next-requires : goal.step_of-next-requires
 step_of-next-requires c = let p = c.requires in let r = p.store.room in let h = p.high in omega arith
 

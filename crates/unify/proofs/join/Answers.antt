@@ -9,13 +9,12 @@ use Rattle.unify.specs.Joining.{meet_together, join_asks, join_room, meet_grew}
 use Rattle.unify.proofs.join.Goals as goal
 use Rattle.unify.proofs.join.Goals.{Else-a-b}
 
--- back from where the second name is found, from where the two differ, from where they are joined, and from the end
 room : (c : Else-a-b) → let a = c.args in pair_place a.top (a.pairs + a.arity) ≤ work_need a.top
 room c = join_room c.requires c.find-a.ensures c.find-b.ensures c.if-a-b.false
 
 -- finding keeps the length
 long : (c : Else-a-b) → length c.find-b.new.words ≡ length c.args.work.now
-long c = c.work-2-1.given ∙ c.work-1.given
+long c = omega arith
 
 pub find-a-requires : goal.find-a-requires
 find-a-requires c = let p = c.requires in (p.named.lower, p.left_node)
@@ -35,14 +34,14 @@ push_args-requires c =
     let r = room (goal.at.push_args-requires c).Else-a-b in
     let l = p.left_args in
     let q = p.right_args in
-    (omega (arith, c.work-3-1.given, long (goal.at.push_args-requires c).Else-a-b), omega arith, omega arith)
+    (omega (arith, long (goal.at.push_args-requires c).Else-a-b), omega arith, omega arith)
 
 pub overflow_add-result : goal.overflow_add-result
 overflow_add-result c = let r = room (goal.at.overflow_add-result c).Else-a-b in omega arith
 
 pub shape_of-work : goal.shape_of-work
-shape_of-work c = omega (arith, c.work-4-1.given, c.work-3-1.given, long (goal.at.shape_of-work c).Else-a-b)
+shape_of-work c = omega (arith, long (goal.at.shape_of-work c).Else-a-b)
 
 pub returns : goal.returns
 returns c =
-    meet_grew c.requires c.find-a.ensures c.find-b.ensures c.if-a-b.false c.join.ensures c.push_args.ensures c.work-4-1.given
+    meet_grew c.requires c.find-a.ensures c.find-b.ensures c.if-a-b.false c.join.ensures c.push_args.ensures (omega arith)

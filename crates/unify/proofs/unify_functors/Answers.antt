@@ -2,7 +2,6 @@
 use Rattle.unify.specs.Arms.{functors_same, functors_apart, functors_atom, functors_join}
 use Rattle.unify.proofs.unify_functors.Goals as goal
 
--- back from where the arities are one to where the names are, and on to where both functors are read
 pub returns-then-s-t : goal.returns-then-s-t
 returns-then-s-t c = λ a b. functors_same _ c.if-s-t.true
 
