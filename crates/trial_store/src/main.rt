@@ -4,10 +4,10 @@
 
 mod books;
 mod cells;
-mod chains;
 mod flips;
 mod room;
 mod run;
+mod var_chains;
 
 use std::io;
 
@@ -22,10 +22,10 @@ fn main(rt: HostRuntime) -> io::Result<()> {
     run::history(&rt)?;
     run::left_broken(&rt)?;
     room::limits(&rt)?;
-    chains::rings(&rt)?;
-    chains::tails(&rt)?;
-    chains::turns(&rt)?;
-    chains::sizes(&rt)?;
-    chains::appends(&rt)?;
-    chains::rollbacks(&rt)
+    var_chains::rings(&rt)?;
+    var_chains::tails(&rt)?;
+    var_chains::turns(&rt)?;
+    var_chains::sizes(&rt)?;
+    var_chains::appends(&rt)?;
+    var_chains::rollbacks(&rt)
 }
