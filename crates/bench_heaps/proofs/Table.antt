@@ -1,4 +1,4 @@
--- The bench heaps P1 to P10, proved together as a single table. A row has its name, every lent word before the call, the call, what it answers, and every lent word after it; P2 and P3 go on with the words that P1 leaves.
+-- The table of the bench heaps, computed and proved together.
 use Rattle.std.specs.Prelude.{◌≡◌, refl, true}
 use Rattle.cell.specs.Kinds.{kind_of, by_tag, word_of_kind}
 use Rattle.cell.specs.Fixnum.{of_number}

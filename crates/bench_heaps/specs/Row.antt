@@ -27,7 +27,7 @@ pub data Answer : Type 0 where
   No : Answer
   At : ℕ → Answer
   Refusal : ℕ → Answer
-  deriving Discrete as answer-discrete
+  deriving Discrete as answer_discrete
 
 -- what plain and checked unification say
 abbrev unified : Outcome → Answer
@@ -107,8 +107,8 @@ holds_of (yes p) = true
 holds_of (no p) = false
 
 unfoldable pub same_answer : Answer → Answer → Bool
-unfolding answer-discrete ℕ_discrete
-same_answer a b = holds_of (answer-discrete ℕ_discrete a b)
+unfolding answer_discrete ℕ_discrete
+same_answer a b = holds_of (answer_discrete ℕ_discrete a b)
 
 -- the call is computed, and its answer and all that is lent after it are compared
 abbrev pub passes : Row → Bool
@@ -147,7 +147,7 @@ lent_true l m e =
 
 answer_true : (a b : Answer) → same_answer a b ≡ true → a ≡ b
 unfolding same_answer
-answer_true a b = go (answer-discrete ℕ_discrete a b)
+answer_true a b = go (answer_discrete ℕ_discrete a b)
   where
     go : (d : Dec (a ≡ b)) → holds_of d ≡ true → a ≡ b
     go (yes p) e = p

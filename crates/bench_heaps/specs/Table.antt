@@ -1,4 +1,4 @@
--- The bench heaps P1 to P10, proved together as a single table. A row has its name, every lent word before the call, the call, what it answers, and every lent word after it; P2 and P3 go on with the words that P1 leaves.
+-- The bench heaps P1 to P10 as a single table, which proofs/Table.antt computes and proves. A row has its name, every lent word before the call, the call, what it answers, and every lent word after it; P2 and P3 go on with the words that P1 leaves.
 use Rattle.std.specs.Prelude.{List, [], ◌∷◌, ◌++◌, map, ℕ, ◌+◌, ◌-◌, pos, length, replicate}
 use Prim.Native.String.{String}
 use Rattle.cell.specs.Kinds.{word_of_kind}

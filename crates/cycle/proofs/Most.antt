@@ -1,4 +1,4 @@
--- A bound on the room of a copy that takes no walk. A structure of arity 1 or more is counted at its functor cell, one of arity 0 at each Str that names it, and a pair at each Lis that names it; so none that a root reaches is left out.
+-- The bound on the room of a copy is enough: no copy needs more.
 use Rattle.std.specs.Prelude.{◌≡◌, refl, Bool, ◌&&◌, List, ℕ, ◌+◌, ◌-◌, ◌≤◌, eqb}
 use Rattle.std.proofs.Common.{ap, eq-eqb, ne_eqb}
 use Rattle.std.proofs.Math.Bool.{true, false, cond, and-eq-true_iff}

@@ -64,7 +64,7 @@ module _ (s : List ℕ) (top : ℕ) (wf : WellFormed s top) where
       → ((x : ℕ) → self x + (one (heads x) + two (pairs x)) ≤ own x)
       → room_by s top str lis ≤ 1 + sum_from 1 (top - 1) own
   unfolding room_by room_from
-  room_le str lis self one two heads pairs own need zero-str zero-lis cover =
+  room_le str lis self one two heads pairs own need zero_str zero_lis cover =
       let n = top - 1 in
       let by_str : ℕ → ℕ = λ f. cond (named heads top f) (one f) 0 in
       let by_lis : ℕ → ℕ = λ f. cond (named pairs top f) (two f) 0 in
@@ -73,8 +73,8 @@ module _ (s : List ℕ) (top : ℕ) (wf : WellFormed s top) where
       let c = sum_add by_str by_lis n 1 in
       let d = named_le heads one n top in
       let e = named_le pairs two n top in
-      let f = from_one one heads zero-str in
-      let g = from_one two pairs zero-lis in
+      let f = from_one one heads zero_str in
+      let g = from_one two pairs zero_lis in
       let h = sum_add (λ x. one (heads x)) (λ x. two (pairs x)) n 1 in
       let i = sum_add self (λ x. one (heads x) + two (pairs x)) n 1 in
       let j = sum_le (λ x. self x + (one (heads x) + two (pairs x))) own n 1 (λ k _ _. cover k) in

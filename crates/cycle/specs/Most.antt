@@ -1,4 +1,5 @@
 -- A bound on the room of a copy that takes no walk. A structure of arity 1 or more is counted at its functor cell, one of arity 0 at each Str that names it, and a pair at each Lis that names it; so none that a root reaches is left out.
+-- That it is enough is proved in proofs/Most.antt.
 use Rattle.std.specs.Prelude.{◌≡◌, List, ℕ, ◌+◌, ◌-◌, ◌<◌, ◌≤◌, eqb}
 use Rattle.std.proofs.Math.Bool.{cond}
 use native.Mathlib.Omega.{arith}

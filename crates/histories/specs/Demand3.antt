@@ -1,5 +1,6 @@
 -- What was undone leaves no trace. Take any run of appends, marks, unifications, copies, cuts and rollbacks from a fresh store, buffers and counts handed on untouched, each buffer of fixed length. Strike each refused or failed call, each rollback done, and what came between the mark it went back to and that rollback. Replaying the rest gives the same cells, trail, marks and counts, word for word, and no rollback to a standing mark is refused.
 -- The calls and the run are those of specs/Calls.antt; what is struck is `logbook`, and which marks stand is `standing`, of specs/History.antt in the crate replay. A check, a follow, a cycle verdict or a number cell changes no lent word and is left out of a run.
+-- The theorem stands in proofs/Demand3.antt.
 use Rattle.std.specs.Prelude.{◌≡◌, true, List, ℕ, ◌≤◌, length}
 use Rattle.trail.specs.State.{done, holds}
 use Rattle.replay.specs.History.{Call, rollback, Event, Trace, calls, logbook, unstruck, standing}

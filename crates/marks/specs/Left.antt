@@ -109,11 +109,11 @@ module _ (s u freed : List ℕ) (top t : ℕ) (wf : WellFormed s top) (within : 
   row_left_lem i (Lis l) h =
       let p = (and-eq-true_iff (term_at s top l) (term_at s top (l + 1))).0 h in
       rw (term_left l p.0, term_left (l + 1) p.1)
-      (elim (dec_lt (l + 1) t) [ yes b ↦ rw (lt-ltb l t (omega arith)) | no b ↦ (let e = le-ltb (l + 1) t (omega arith) in rw e (and-false (ltb l t))) ])
+      (elim (dec_lt (l + 1) t) [ yes b ↦ rw (lt-ltb l t (omega arith)) | no b ↦ (let e = le-ltb (l + 1) t (omega arith) in rw e (and_false (ltb l t))) ])
     where
-      and-false : (x : Bool) → (x && false) ≡ false
-      and-false true = refl
-      and-false false = refl
+      and_false : (x : Bool) → (x && false) ≡ false
+      and_false true = refl
+      and_false false = refl
   row_left_lem i (Atom n a) h = run_left i a h
   row_left_lem i (Fixnum z) h = refl
   row_left_lem i Bad h = absurd (false≢true h)
@@ -190,11 +190,11 @@ module _ (u : List ℕ) (t : ℕ) (trail : List ℕ) (c : ℕ) (l : c ≤ length
   trail_kept : trail_good u t (zeroed c trail) c ≡ trail_used u t trail c
   unfolding trail_good trail_used
   trail_kept =
-      rw (zeros_back (zeroed c trail) c (zeroed_from c trail l), length_zeroed c trail l, all_same (entry_keeps u t (zeroed c trail)) (entry_keeps u t trail) c 0 (λ i _ b. entry_kept i (omega arith))) (and-true _)
+      rw (zeros_back (zeroed c trail) c (zeroed_from c trail l), length_zeroed c trail l, all_same (entry_keeps u t (zeroed c trail)) (entry_keeps u t trail) c 0 (λ i _ b. entry_kept i (omega arith))) (and_true _)
     where
-      and-true : (b : Bool) → (b && true) ≡ b
-      and-true true = refl
-      and-true false = refl
+      and_true : (b : Bool) → (b && true) ≡ b
+      and_true true = refl
+      and_true false = refl
 
 -- ---- the marks cut down to k keep the rules with the counts of mark k
 rising : (f : ℕ → ℕ) (n : ℕ) → ((m : ℕ) → suc m < n → f m ≤ f (suc m)) → (d m : ℕ) → m + d < n → f m ≤ f (m + d)

@@ -1,4 +1,5 @@
 -- A state against the state in which one of its marks was set; rolling back gives that state again.
+-- One law, `ext_adds`, stands in proofs/Ext.antt.
 use Rattle.std.specs.Prelude.{◌≡◌, refl, List, ◌⊎◌, ℕ, ◌+◌, ◌-◌, ◌*◌, ◌<◌, ◌≤◌, length, get_or, set}
 use Rattle.std.proofs.Common.{sym, subst, ◌∙◌, inl, ⊎_elim, arith, length-set, get_or-set_same, get_or-set_other}
 use Rattle.cell.specs.Word.{var_word}

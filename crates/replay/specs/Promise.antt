@@ -1,4 +1,5 @@
 -- The promise of a replay, for any unify and copy that obey the law: from a fresh store, what is not struck from a history gives the same cells, trail, marks and counts again, word for word.
+-- The theorem stands in proofs/Promise.antt.
 use Rattle.std.specs.Prelude.{◌≡◌, true, ℕ, ◌≤◌}
 use Rattle.trail.specs.State.{done, holds}
 use Rattle.replay.specs.History.{Call, rollback, Trace, Engine, step, run, history, calls, logbook, unstruck, standing}

@@ -244,7 +244,7 @@ live_start s a b wf ta tb r =
 module _ (s : State) (check : Bool) (A : Seen → Type 0) (C O : Type 0)
     (on : (t : Seen) (a b : ℕ) (u : Act) → Case (shape_of s.cells) t.classes (t.look a) (t.look b) u → (u ≡ clash → ⊥) → Passes check (shape_of s.cells) t.look u → A (pushed a b t) → A (apply (shape_of s.cells) t u))
     (at_clash : (t : Seen) (a b : ℕ) → Apart (shape_of s.cells) (t.look a) (t.look b) → A (pushed a b t) → C)
-    (at-stop : check ≡ true → (t : Seen) (a b : ℕ) → Stops (shape_of s.cells) t a b → A (pushed a b t) → O) where
+    (at_stop : check ≡ true → (t : Seen) (a b : ℕ) → Stops (shape_of s.cells) t a b → A (pushed a b t) → O) where
   pub run_keeps : (f : ℕ) (m : Machine) → Live s f m → A (seen_of s.top m) → Ends s A C O (run check s.top f m)
   unfolding run
   run_keeps zero m l h = let t = l.time in absurd (omega arith)
@@ -261,7 +261,7 @@ module _ (s : State) (check : Bool) (A : Seen → Type 0) (C O : Type 0)
           subst To (sym r) (ih (to s f m p rest e l u) (live_step s f m p rest e l u c) (subst A (sym (seen_step s f m p rest e l u c)) (on (seen_of s.top (popped m rest)) p.0 p.1 u c n ps k)))
 
       binding : (p : ℕ × ℕ) (rest : List (ℕ × ℕ)) (e : m.pairs ≡ p ∷ rest) → Next → (v : ℕ) (x : View) → act_of m (end_a s f m p rest e l) (end_b s f m p rest e l) ≡ bind v x → CaseHere s f m p rest e l (bind v x) → A (pushed p.0 p.1 (seen_of s.top (popped m rest))) → (t : Bool) → stopped check m.cells s.top v x (other (end_a s f m p rest e l) (end_b s f m p rest e l) v) ≡ t → To (run check s.top (suc f) m)
-      binding p rest e ih v x q c k true z = subst To (sym (turn_occurs s f m p rest e l check v x q z)) (at-stop (stops_checked s f m p rest e l check v x c z) (seen_of s.top (popped m rest)) p.0 p.1 (stops_at s f m p rest e l check v x c z) k)
+      binding p rest e ih v x q c k true z = subst To (sym (turn_occurs s f m p rest e l check v x q z)) (at_stop (stops_checked s f m p rest e l check v x c z) (seen_of s.top (popped m rest)) p.0 p.1 (stops_at s f m p rest e l check v x c z) k)
       binding p rest e ih v x q c k false z = step p rest e ih (bind v x) c (λ b. let y : ◌≡◌ {A = ℕ} 0 1 = cc in omega arith) (lets_pass s f m p rest e l check v x c z) k (turn_bind s f m p rest e l check v x q z)
 
       clashing : (p : ℕ × ℕ) (rest : List (ℕ × ℕ)) (e : m.pairs ≡ p ∷ rest) → CaseHere s f m p rest e l clash → A (pushed p.0 p.1 (seen_of s.top (popped m rest))) → C

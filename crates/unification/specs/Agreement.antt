@@ -1,4 +1,5 @@
 -- Where no pair is left, cells of one key agree to every depth: so a yes makes the roots agree to every depth.
+-- The theorems stand in proofs/Agreement.antt.
 use Rattle.std.specs.Prelude.{◌≡◌, List, ℕ, ◌<◌}
 use Rattle.terms.specs.View.{View, Shape, arity_of}
 use Rattle.unification.specs.Seen.{Seen, All}

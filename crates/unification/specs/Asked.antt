@@ -1,4 +1,5 @@
 -- From a call's result to what it rests on: what a call that is not refused may rely on, and the ending of its run.
+-- The theorems stand in proofs/Asked.antt.
 use Rattle.std.proofs.Math.Path.{◌≡◌}
 use Rattle.std.specs.Prelude.{List, ℕ, ◌+◌, ◌≤◌, length}
 use Rattle.std.proofs.Math.Bool.{true}

@@ -1,4 +1,5 @@
 -- The rules in cases, each with what it tells of the two views; every later proof goes by these.
+-- The theorems stand in proofs/Cases.antt.
 use Rattle.std.specs.Prelude.{◌≡◌, ℕ}
 use Rattle.terms.specs.View.{Constant, View, free, con, nod, Shape}
 use Rattle.unification.specs.Machine.{Act, skip, bind, join, clash}

@@ -1,4 +1,5 @@
 -- Checked unification of roots that stand for finite terms: a no means that no finite terms make them equal; after a yes the cells' terms are instances of those at entry by one substitution, which is a most general unifier.
+-- The theorems stand in proofs/Checked.antt.
 use Rattle.std.specs.Prelude.{ℕ}
 use Rattle.terms.specs.View.{View, Shape}
 use Rattle.terms.specs.Term.{Term}

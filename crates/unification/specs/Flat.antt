@@ -1,4 +1,5 @@
 -- Where a run binds no variable to a Str or a Lis, no cycle comes of it, so there is nothing to test.
+-- The theorems stand in proofs/Flat.antt.
 use Rattle.std.specs.Prelude.{Bool, true, List, ℕ, ◌-◌, get_or}
 use Rattle.std.proofs.Math.Bool.{false}
 use Rattle.cell.specs.declared.Kind.{Kind}

@@ -1,4 +1,5 @@
 -- What holds of a running machine, that each turn keeps it, and that what an act keeps a whole run keeps. So a run ends before its fuel is spent.
+-- The theorems stand in proofs/Live.antt.
 use Rattle.std.specs.Prelude.{◌≡◌, Bool, true, ◌⊎◌}
 use mathlib.Core.List.{[]}
 use Prim.Native.Nat.{ℕ, ◌<◌}

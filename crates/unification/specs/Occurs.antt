@@ -1,4 +1,5 @@
 -- The occurs check means what it says: the computed test holds exactly where the variable lies below the node that it would be bound to.
+-- The theorems stand in proofs/Occurs.antt.
 use Rattle.std.proofs.Math.Path.{◌≡◌}
 use Rattle.std.specs.Prelude.{ℕ, ◌<◌}
 use Rattle.cycle.specs.Graph as Graph

@@ -1,4 +1,5 @@
 -- Checked unification is plain unification and one test after its yes: that a root reaches no cycle.
+-- The theorems stand in proofs/PlainThenTest.antt.
 use Rattle.std.specs.Prelude.{◌≡◌, ℕ}
 use Rattle.terms.specs.View.{View, free, con, nod}
 use Rattle.unification.specs.Seen.{Seen}

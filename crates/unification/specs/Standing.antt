@@ -1,4 +1,5 @@
 -- At most 3 x `top` + 1 pairs ever stand: of every machine that a run comes to.
+-- The theorems stand in proofs/Standing.antt.
 use Rattle.std.specs.Prelude.{◌≡◌, Bool, [], ℕ}
 use Rattle.trail.specs.State.{State}
 use Rattle.unification.specs.Machine.{Machine, yes, turn, start}

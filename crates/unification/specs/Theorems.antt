@@ -1,4 +1,5 @@
 -- What unification promises, of any state, work buffer and roots: stated over words and over the results of the two calls. Terms, substitutions and unifiers are those of ISO/IEC 13211-1, 7.1 and 7.3; checked unification is its 8.2.2.
+-- The theorems stand in proofs/Theorems.antt.
 use Rattle.std.specs.Prelude.{◌≡◌, ℕ}
 use Rattle.std.proofs.Math.Bool.{true}
 use mathlib.Core.List.{List}

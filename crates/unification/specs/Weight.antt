@@ -1,4 +1,5 @@
 -- How many pairs can ever stand: the pairs, and the arities of the nodes that name a class, keep one sum, which falls by one with each pair taken and starts at 3 x `top` + 1 at most.
+-- The theorems stand in proofs/Weight.antt.
 use Rattle.std.specs.Prelude.{◌≡◌, length}
 use Rattle.std.proofs.Math.Bool.{cond}
 use Prim.Native.Nat.{ℕ, ◌+◌, ◌<◌}

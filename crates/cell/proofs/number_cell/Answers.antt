@@ -14,38 +14,38 @@ pub returns-then-n-gt-FIXNUM_MAX : goal.returns-then-n-gt-FIXNUM_MAX
 returns-then-n-gt-FIXNUM_MAX c = refused _ (is_high _ c.ranges.n c.if-n-gt-FIXNUM_MAX.true)
 
 -- past both tests the number is in the range
-in-range : (c : Else-n-gt-FIXNUM_MAX) → in_range c.args.n ≡ true
-in-range c = is_inside _ c.ranges.n c.if-n-lt-FIXNUM_MIN.false c.if-n-gt-FIXNUM_MAX.false
+within : (c : Else-n-gt-FIXNUM_MAX) → in_range c.args.n ≡ true
+within c = is_inside _ c.ranges.n c.if-n-lt-FIXNUM_MIN.false c.if-n-gt-FIXNUM_MAX.false
 
 pub overflow_add-v : goal.overflow_add-v
-overflow_add-v c = raised_fits _ c.ranges.n (in-range (goal.at.overflow_add-v c).Else-n-gt-FIXNUM_MAX) c.if-n-lt0.true
+overflow_add-v c = raised_fits _ c.ranges.n (within (goal.at.overflow_add-v c).Else-n-gt-FIXNUM_MAX) c.if-n-lt0.true
 
 pub overflow_cast-v : goal.overflow_cast-v
 overflow_cast-v c =
     let f = c.ranges.n in
-    cast_asks _ f (in-range (goal.at.overflow_cast-v c).Else-n-gt-FIXNUM_MAX) _ (raised_back _ f (in-range (goal.at.overflow_cast-v c).Else-n-gt-FIXNUM_MAX) c.if-n-lt0.true)
+    cast_asks _ f (within (goal.at.overflow_cast-v c).Else-n-gt-FIXNUM_MAX) _ (raised_back _ f (within (goal.at.overflow_cast-v c).Else-n-gt-FIXNUM_MAX) c.if-n-lt0.true)
 
 pub build_with-requires : goal.build_with-requires
 build_with-requires c =
     let f = c.ranges.n in
-    (lit< tt, lit< tt, lit< tt, cast_lt _ f (in-range (goal.at.build_with-requires c).Else-n-gt-FIXNUM_MAX) _ (raised_back _ f (in-range (goal.at.build_with-requires c).Else-n-gt-FIXNUM_MAX) c.if-n-lt0.true))
+    (lit< tt, lit< tt, lit< tt, cast_lt _ f (within (goal.at.build_with-requires c).Else-n-gt-FIXNUM_MAX) _ (raised_back _ f (within (goal.at.build_with-requires c).Else-n-gt-FIXNUM_MAX) c.if-n-lt0.true))
 
 pub overflow_cast-v-else-n-lt0 : goal.overflow_cast-v-else-n-lt0
 overflow_cast-v-else-n-lt0 c =
     let f = c.ranges.n in
-    cast_asks _ f (in-range (goal.at.overflow_cast-v-else-n-lt0 c).Else-n-gt-FIXNUM_MAX) _ (kept_back _ f (in-range (goal.at.overflow_cast-v-else-n-lt0 c).Else-n-gt-FIXNUM_MAX) c.if-n-lt0.false)
+    cast_asks _ f (within (goal.at.overflow_cast-v-else-n-lt0 c).Else-n-gt-FIXNUM_MAX) _ (kept_back _ f (within (goal.at.overflow_cast-v-else-n-lt0 c).Else-n-gt-FIXNUM_MAX) c.if-n-lt0.false)
 
 pub build_with-requires-else-n-lt0 : goal.build_with-requires-else-n-lt0
 build_with-requires-else-n-lt0 c =
     let f = c.ranges.n in
-    (lit< tt, lit< tt, lit< tt, cast_lt _ f (in-range (goal.at.build_with-requires-else-n-lt0 c).Else-n-gt-FIXNUM_MAX) _ (kept_back _ f (in-range (goal.at.build_with-requires-else-n-lt0 c).Else-n-gt-FIXNUM_MAX) c.if-n-lt0.false))
+    (lit< tt, lit< tt, lit< tt, cast_lt _ f (within (goal.at.build_with-requires-else-n-lt0 c).Else-n-gt-FIXNUM_MAX) _ (kept_back _ f (within (goal.at.build_with-requires-else-n-lt0 c).Else-n-gt-FIXNUM_MAX) c.if-n-lt0.false))
 
 pub returns-then-n-lt0 : goal.returns-then-n-lt0
 returns-then-n-lt0 c =
     let f = c.ranges.n in
-    made _ f (in-range (goal.at.returns-then-n-lt0 c).Else-n-gt-FIXNUM_MAX) _ _ (raised_back _ f (in-range (goal.at.returns-then-n-lt0 c).Else-n-gt-FIXNUM_MAX) c.if-n-lt0.true) c.build_with.ensures
+    made _ f (within (goal.at.returns-then-n-lt0 c).Else-n-gt-FIXNUM_MAX) _ _ (raised_back _ f (within (goal.at.returns-then-n-lt0 c).Else-n-gt-FIXNUM_MAX) c.if-n-lt0.true) c.build_with.ensures
 
 pub returns-else-n-lt0 : goal.returns-else-n-lt0
 returns-else-n-lt0 c =
     let f = c.ranges.n in
-    made _ f (in-range (goal.at.returns-else-n-lt0 c).Else-n-gt-FIXNUM_MAX) _ _ (kept_back _ f (in-range (goal.at.returns-else-n-lt0 c).Else-n-gt-FIXNUM_MAX) c.if-n-lt0.false) c.build_with-else-n-lt0.ensures
+    made _ f (within (goal.at.returns-else-n-lt0 c).Else-n-gt-FIXNUM_MAX) _ _ (kept_back _ f (within (goal.at.returns-else-n-lt0 c).Else-n-gt-FIXNUM_MAX) c.if-n-lt0.false) c.build_with-else-n-lt0.ensures

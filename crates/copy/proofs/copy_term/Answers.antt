@@ -17,8 +17,8 @@ use Rattle.copy.proofs.copy_term.Goals.{Else-not-check_cells, Else-not-copy_fits
 formed : (c : Else-not-check_cells) → well_formed (let a = c.args in lent a.cells.now a.top.now a.work.now).cells (let a = c.args in lent a.cells.now a.top.now a.work.now).top ≡ true
 formed c = sym c.check_cells.ensures ∙ c.if-not-check_cells.false
 
-root-term : (c : Else-not-term_at) → term_at (let a = c.args in lent a.cells.now a.top.now a.work.now).cells (let a = c.args in lent a.cells.now a.top.now a.work.now).top (c.args.root) ≡ true
-root-term c = sym c.term_at.ensures ∙ c.if-not-term_at.false
+root_term : (c : Else-not-term_at) → term_at (let a = c.args in lent a.cells.now a.top.now a.work.now).cells (let a = c.args in lent a.cells.now a.top.now a.work.now).top (c.args.root) ≡ true
+root_term c = sym c.term_at.ensures ∙ c.if-not-term_at.false
 
 long : (c : Else-work-work_need) → work_need (let a = c.args in lent a.cells.now a.top.now a.work.now).top ≤ length (let a = c.args in lent a.cells.now a.top.now a.work.now).work
 long c = let e = c.work_need.ensures in omega arith
@@ -26,8 +26,8 @@ long c = let e = c.work_need.ensures in omega arith
 room : (c : Else-not-copy_fits) → room_for (let a = c.args in lent a.cells.now a.top.now a.work.now).cells (let a = c.args in lent a.cells.now a.top.now a.work.now).top (room_of (let a = c.args in lent a.cells.now a.top.now a.work.now).cells (let a = c.args in lent a.cells.now a.top.now a.work.now).top (c.args.root)) ≡ true
 room c = sym c.copy_fits.ensures ∙ c.if-not-copy_fits.false
 
-all-given : (c : Else-not-copy_fits) → Given (let a = c.args in lent a.cells.now a.top.now a.work.now).cells (let a = c.args in lent a.cells.now a.top.now a.work.now).top (c.args.root)
-all-given c =
+all_given : (c : Else-not-copy_fits) → Given (let a = c.args in lent a.cells.now a.top.now a.work.now).cells (let a = c.args in lent a.cells.now a.top.now a.work.now).top (c.args.root)
+all_given c =
     given (let a = c.args in lent a.cells.now a.top.now a.work.now) (c.args.root) (sym c.check_cells.ensures ∙ c.if-not-check_cells.false) (sym c.term_at.ensures ∙ c.if-not-term_at.false) (let e = c.work_need.ensures in omega arith) (sym c.copy_fits.ensures ∙ c.if-not-copy_fits.false)
 
 pub returns-then-not-check_cells : goal.returns-then-not-check_cells
@@ -43,19 +43,19 @@ pub work_need-requires : goal.work_need-requires
 work_need-requires c = (parts _ _ (formed (goal.at.work_need-requires c).Else-not-check_cells)).high
 
 pub returns-then-work-work_need : goal.returns-then-work-work_need
-returns-then-work-work_need c = let e = c.work_need.ensures in no_work _ _ (formed (goal.at.returns-then-work-work_need c).Else-not-check_cells) (root-term (goal.at.returns-then-work-work_need c).Else-not-term_at) (omega arith)
+returns-then-work-work_need c = let e = c.work_need.ensures in no_work _ _ (formed (goal.at.returns-then-work-work_need c).Else-not-check_cells) (root_term (goal.at.returns-then-work-work_need c).Else-not-term_at) (omega arith)
 
 pub copy_fits-requires : goal.copy_fits-requires
-copy_fits-requires c = (parts _ _ (formed (goal.at.copy_fits-requires c).Else-not-check_cells), root-term (goal.at.copy_fits-requires c).Else-not-term_at)
+copy_fits-requires c = (parts _ _ (formed (goal.at.copy_fits-requires c).Else-not-check_cells), root_term (goal.at.copy_fits-requires c).Else-not-term_at)
 
 pub returns-then-not-copy_fits : goal.returns-then-not-copy_fits
 returns-then-not-copy_fits c =
-    no_room _ _ (formed (goal.at.returns-then-not-copy_fits c).Else-not-check_cells) (root-term (goal.at.returns-then-not-copy_fits c).Else-not-term_at) (long (goal.at.returns-then-not-copy_fits c).Else-work-work_need) (sym c.copy_fits.ensures ∙ c.if-not-copy_fits.true)
+    no_room _ _ (formed (goal.at.returns-then-not-copy_fits c).Else-not-check_cells) (root_term (goal.at.returns-then-not-copy_fits c).Else-not-term_at) (long (goal.at.returns-then-not-copy_fits c).Else-work-work_need) (sym c.copy_fits.ensures ∙ c.if-not-copy_fits.true)
 
 pub copy_root-requires : goal.copy_root-requires
-copy_root-requires c = (all-given (goal.at.copy_root-requires c).Else-not-copy_fits, long (goal.at.copy_root-requires c).Else-work-work_need)
+copy_root-requires c = (all_given (goal.at.copy_root-requires c).Else-not-copy_fits, long (goal.at.copy_root-requires c).Else-work-work_need)
 
 pub returns : goal.returns
 returns c =
     let e = c.copy_root.ensures in
-    made _ _ (formed (goal.at.returns c).Else-not-check_cells) (root-term (goal.at.returns c).Else-not-term_at) (long (goal.at.returns c).Else-work-work_need) (room (goal.at.returns c).Else-not-copy_fits) _ _ _ e.0 e.1 e.2
+    made _ _ (formed (goal.at.returns c).Else-not-check_cells) (root_term (goal.at.returns c).Else-not-term_at) (long (goal.at.returns c).Else-work-work_need) (room (goal.at.returns c).Else-not-copy_fits) _ _ _ e.0 e.1 e.2

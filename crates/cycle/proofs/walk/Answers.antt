@@ -205,8 +205,8 @@ pub loop-sp-preserved : goal.loop-sp-preserved
 loop-sp-preserved c = up (formed (goal.at.loop-sp-preserved c).In-loop-sp) c.loop-sp.invariant c.loop-sp-test.true c.if-next-end.false
 
 -- after the loop the tables are as long as before
-kept-length : (c : After-loop-sp) → let l = c.loop-sp in let a = c.args in (length l.col ≡ length a.col.now) × (length l.nexts ≡ length a.nexts.now) × (length l.ends ≡ length a.ends.now)
-kept-length c =
+kept_length : (c : After-loop-sp) → let l = c.loop-sp in let a = c.args in (length l.col ≡ length a.col.now) × (length l.nexts ≡ length a.nexts.now) × (length l.ends ≡ length a.ends.now)
+kept_length c =
     let p = c.requires in
     let g = c.loop-sp.invariant in
     let t = p.3 in
@@ -214,13 +214,13 @@ kept-length c =
     (g.walking.col_long ∙ s ∙ sym t.col_long, g.nexts_long ∙ s ∙ sym t.nexts_long, g.ends_long ∙ s ∙ sym t.ends_long)
 
 pub shape_of-col : goal.shape_of-col
-shape_of-col c = (kept-length c).0
+shape_of-col c = (kept_length c).0
 
 pub shape_of-nexts : goal.shape_of-nexts
-shape_of-nexts c = (kept-length c).1
+shape_of-nexts c = (kept_length c).1
 
 pub shape_of-ends : goal.shape_of-ends
-shape_of-ends c = (kept-length c).2
+shape_of-ends c = (kept_length c).2
 
 pub returns : goal.returns
 returns c =

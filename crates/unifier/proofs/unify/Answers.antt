@@ -15,11 +15,11 @@ returns-in-Refused c = sym (plain_refused _ _ _ _ _ (sym c.plain_check.ensures �
 passed : (c : In_default) → plain_check (let a = c.args in state_of a.cells.now a.top a.trail.now a.trailed.now a.marks.now a.marked) (c.args.work.now) c.args.a c.args.b ≡ Done
 passed c = sym c.plain_check.ensures ∙ c.in_default.is
 
-all-passed : (c : In_default) → Passed false (let a = c.args in state_of a.cells.now a.top a.trail.now a.trailed.now a.marks.now a.marked) (c.args.work.now) c.args.a c.args.b
-all-passed c = record { asked = asked (let a = c.args in state_of a.cells.now a.top a.trail.now a.trailed.now a.marks.now a.marked) (c.args.work.now) _ _ (sym c.plain_check.ensures ∙ c.in_default.is); acyclic = λ e. absurd (false≢true e) }
+all_passed : (c : In_default) → Passed false (let a = c.args in state_of a.cells.now a.top a.trail.now a.trailed.now a.marks.now a.marked) (c.args.work.now) c.args.a c.args.b
+all_passed c = record { asked = asked (let a = c.args in state_of a.cells.now a.top a.trail.now a.trailed.now a.marks.now a.marked) (c.args.work.now) _ _ (sym c.plain_check.ensures ∙ c.in_default.is); acyclic = λ e. absurd (false≢true e) }
 
 pub settle-requires : goal.settle-requires
-settle-requires c = passed_lent _ _ _ _ _ (all-passed (goal.at.settle-requires c).In_default)
+settle-requires c = passed_lent _ _ _ _ _ (all_passed (goal.at.settle-requires c).In_default)
 
 pub returns : goal.returns
 returns c =

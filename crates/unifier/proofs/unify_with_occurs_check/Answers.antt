@@ -15,11 +15,11 @@ returns-in-Refused c = sym (checked_refused _ _ _ _ _ (sym c.checked_check.ensur
 passed : (c : In_default) → checked_check (let a = c.args in state_of a.cells.now a.top a.trail.now a.trailed.now a.marks.now a.marked) (c.args.work.now) c.args.a c.args.b ≡ Done
 passed c = sym c.checked_check.ensures ∙ c.in_default.is
 
-all-passed : (c : In_default) → Passed true (let a = c.args in state_of a.cells.now a.top a.trail.now a.trailed.now a.marks.now a.marked) (c.args.work.now) c.args.a c.args.b
-all-passed c = let k = checked_asked (let a = c.args in state_of a.cells.now a.top a.trail.now a.trailed.now a.marks.now a.marked) (c.args.work.now) _ _ (sym c.checked_check.ensures ∙ c.in_default.is) in record { asked = k.0; acyclic = λ _. (k.1, k.2) }
+all_passed : (c : In_default) → Passed true (let a = c.args in state_of a.cells.now a.top a.trail.now a.trailed.now a.marks.now a.marked) (c.args.work.now) c.args.a c.args.b
+all_passed c = let k = checked_asked (let a = c.args in state_of a.cells.now a.top a.trail.now a.trailed.now a.marks.now a.marked) (c.args.work.now) _ _ (sym c.checked_check.ensures ∙ c.in_default.is) in record { asked = k.0; acyclic = λ _. (k.1, k.2) }
 
 pub settle-requires : goal.settle-requires
-settle-requires c = passed_lent _ _ _ _ _ (all-passed (goal.at.settle-requires c).In_default)
+settle-requires c = passed_lent _ _ _ _ _ (all_passed (goal.at.settle-requires c).In_default)
 
 pub returns : goal.returns
 returns c =
