@@ -1,3 +1,4 @@
+-- `append::lay_at` meets its contract: what the callee left in the part, said of the whole.
 use native.Mathlib.Omega.{arith}
 use Rattle.append.specs.Laid.{put_laid}
 use Rattle.append.proofs.lay_at.Goals as goal

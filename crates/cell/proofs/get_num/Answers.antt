@@ -1,3 +1,4 @@
+-- `cell::get_num` meets its contract: the upper half of the values, less 2^56, are the numbers below 0.
 use Rattle.cell.proofs.Signed.{lowered_fits, number_low, number_high}
 use Rattle.cell.proofs.get_num.Goals as goal
 

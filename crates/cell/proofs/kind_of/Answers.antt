@@ -1,3 +1,4 @@
+-- `cell::kind_of` meets its contract: each way through the tests is a row of the table.
 use mir.Syntax.{w64}
 use mathlib.Core.Path.{◌∙◌, ap}
 use mir.Facts.{to_z-of_z}

@@ -1,3 +1,4 @@
+-- `cell::kind_word` meets its contract: each kind's word is built from numbers that fit.
 use mathlib.Core.Path.{◌≡◌, ◌∙◌, sym, ap, subst}
 use Prim.Native.Nat.{ℕ}
 use native.Mathlib.Omega.{arith}

@@ -1,3 +1,4 @@
+-- `cell_set::is_noted` meets its contract: a mask of one bit is a remainder.
 use mathlib.Core.Path.{ap}
 use Prim.Native.Nat.{ℕ, ◌/◌, ◌%◌, ◌^◌}
 use lib.ListN.{get_or}

@@ -1,3 +1,4 @@
+-- `cell_set::note` meets its contract: the bit of the cell's place in its word, which the shift does not lose.
 use mathlib.Core.Path.{◌≡◌, ap, ◌∙◌}
 use Prim.Native.Nat.{ℕ, ◌*◌, ◌/◌, ◌%◌, ◌^◌}
 use native.Mathlib.Nat.{one-mul}

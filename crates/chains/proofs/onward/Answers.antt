@@ -1,3 +1,4 @@
+-- `chains::onward` meets its contract: what is remembered is further along, and so is a step.
 use Rattle.chains.specs.Chains.{goes}
 use Rattle.chains.specs.Hops.{onward_step}
 use Rattle.chains.proofs.onward.Goals as goal

@@ -1,3 +1,4 @@
+-- `classes::join` meets its contract, by which of the two names is the lower.
 use native.Mathlib.Omega.{arith}
 use Rattle.classes.specs.Classes.{join_low, join_high}
 use Rattle.classes.proofs.join.Goals as goal

@@ -1,3 +1,4 @@
+-- `copy::add_structure` meets its contract, by whether a copy is noted.
 use mathlib.Core.Path.{sym, ap, subst, ◌∙◌}
 use Prim.Native.Nat.{ℕ, ◌+◌}
 use Rattle.copy.specs.Rules.{run}

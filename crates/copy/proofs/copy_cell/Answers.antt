@@ -1,3 +1,4 @@
+-- `copy::copy_cell` meets its contract, by the kind of the cell.
 use mathlib.Core.Path.{sym, ap, subst, ◌∙◌}
 use Rattle.copy.specs.Rules.{act}
 use Rattle.copy.specs.Asks.{state_of, Can}

@@ -1,3 +1,4 @@
+-- `copy::copy_fits` meets its contract: room for the most that a copy can need is room for this one.
 use mathlib.Core.Path.{◌∙◌}
 use borrow.Author.Tests.{le-leb}
 use Rattle.cycle.proofs.Most.{most_enough}

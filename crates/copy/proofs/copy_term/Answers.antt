@@ -1,3 +1,4 @@
+-- `copy::copy_term` meets its contract: the refusals in the definition's order, and then the copy.
 use mathlib.Core.Path.{◌≡◌, sym, ◌∙◌}
 use Prim.Native.Nat.{◌≤◌}
 use mathlib.Core.Bool.{true}
@@ -14,21 +15,22 @@ use native.Mathlib.Omega.{arith}
 use Rattle.copy.proofs.copy_term.Goals as goal
 use Rattle.copy.proofs.copy_term.Goals.{Else-not-check_cells, Else-not-copy_fits, Else-not-term_at, Else-work-work_need}
 
-formed : (c : Else-not-check_cells) → well_formed (let a = c.args in lent a.cells.now a.top.now a.work.now).cells (let a = c.args in lent a.cells.now a.top.now a.work.now).top ≡ true
+-- what is known of the lent words at the call past each refusal that is not given
+formed : (c : Else-not-check_cells) → let a = c.args in well_formed a.cells.now a.top.now ≡ true
 formed c = sym c.check_cells.ensures ∙ c.if-not-check_cells.false
 
-root_term : (c : Else-not-term_at) → term_at (let a = c.args in lent a.cells.now a.top.now a.work.now).cells (let a = c.args in lent a.cells.now a.top.now a.work.now).top (c.args.root) ≡ true
+root_term : (c : Else-not-term_at) → let a = c.args in term_at a.cells.now a.top.now a.root ≡ true
 root_term c = sym c.term_at.ensures ∙ c.if-not-term_at.false
 
-long : (c : Else-work-work_need) → work_need (let a = c.args in lent a.cells.now a.top.now a.work.now).top ≤ length (let a = c.args in lent a.cells.now a.top.now a.work.now).work
+long : (c : Else-work-work_need) → let a = c.args in work_need a.top.now ≤ length a.work.now
 long c = let e = c.work_need.ensures in omega arith
 
-room : (c : Else-not-copy_fits) → room_for (let a = c.args in lent a.cells.now a.top.now a.work.now).cells (let a = c.args in lent a.cells.now a.top.now a.work.now).top (room_of (let a = c.args in lent a.cells.now a.top.now a.work.now).cells (let a = c.args in lent a.cells.now a.top.now a.work.now).top (c.args.root)) ≡ true
+room : (c : Else-not-copy_fits) → let a = c.args in room_for a.cells.now a.top.now (room_of a.cells.now a.top.now a.root) ≡ true
 room c = sym c.copy_fits.ensures ∙ c.if-not-copy_fits.false
 
-all_given : (c : Else-not-copy_fits) → Given (let a = c.args in lent a.cells.now a.top.now a.work.now).cells (let a = c.args in lent a.cells.now a.top.now a.work.now).top (c.args.root)
+all_given : (c : Else-not-copy_fits) → let a = c.args in Given a.cells.now a.top.now a.root
 all_given c =
-    given (let a = c.args in lent a.cells.now a.top.now a.work.now) (c.args.root) (sym c.check_cells.ensures ∙ c.if-not-check_cells.false) (sym c.term_at.ensures ∙ c.if-not-term_at.false) (let e = c.work_need.ensures in omega arith) (sym c.copy_fits.ensures ∙ c.if-not-copy_fits.false)
+    let a = c.args in given (lent a.cells.now a.top.now a.work.now) a.root (sym c.check_cells.ensures ∙ c.if-not-check_cells.false) (sym c.term_at.ensures ∙ c.if-not-term_at.false) (let e = c.work_need.ensures in omega arith) (room c)
 
 pub returns-then-not-check_cells : goal.returns-then-not-check_cells
 returns-then-not-check_cells c = no_cells _ _ (sym c.check_cells.ensures ∙ c.if-not-check_cells.true)

@@ -1,3 +1,4 @@
+-- `copy::end_from` meets its contract: what following left in the part, said of the whole.
 use Rattle.copy.specs.Followed.{mid_asks, followed_part}
 use Rattle.copy.proofs.end_from.Goals as goal
 

@@ -1,3 +1,4 @@
+-- `copy::free_cells` meets its contract, by which of the two is less.
 use native.Mathlib.Omega.{arith}
 use Rattle.copy.specs.Copying.{within_length, within_limit}
 use Rattle.copy.proofs.free_cells.Goals as goal

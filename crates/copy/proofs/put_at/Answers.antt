@@ -1,3 +1,4 @@
+-- `copy::put_at` meets its contract: a word put into the part is put into the whole.
 use Prim.Native.Nat.{◌-◌}
 use Rattle.copy.specs.Arms.{put_part}
 use native.Mathlib.Omega.{arith}

@@ -1,3 +1,4 @@
+-- `copy::reinstantiate_var` meets its contract, by whether a home is noted.
 use mathlib.Core.Path.{refl, sym}
 use lib.Seq.{get_or-set_same}
 use Rattle.copy.specs.Arms.{home_new, home_old}

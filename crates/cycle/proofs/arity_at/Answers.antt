@@ -1,3 +1,4 @@
+-- `cycle::arity_at` meets its contract, arm by arm.
 use Rattle.cycle.proofs.ByKind.{arity_atom, arity_none}
 use Rattle.cycle.proofs.arity_at.Goals as goal
 

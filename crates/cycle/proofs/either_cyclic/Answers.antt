@@ -1,3 +1,4 @@
+-- `cycle::either_cyclic` meets its contract: the walks are on tables of zeros, small or not.
 use mathlib.Core.Path.{refl}
 use Prim.Native.Nat.{◌≤◌}
 use native.Mathlib.Omega.{arith}

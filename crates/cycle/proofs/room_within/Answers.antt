@@ -1,3 +1,4 @@
+-- `cycle::room_within` meets its contract: a copy needs no more room than 1 and the links that one walk on tables of zeros goes over, and else the room counted of what it finished.
 use mathlib.Core.Path.{refl, sym, ap}
 use Prim.Native.Nat.{ℕ}
 use native.Mathlib.Omega.{arith}

@@ -1,3 +1,4 @@
+-- `engine::trisculap_append` meets its contract: it returns and tells what `append::append` answers.
 use Rattle.append.specs.Calls.{said_at}
 use Rattle.engine.specs.Coded.{told_done, told_refused}
 use mathlib.Core.Path.{ap}

@@ -1,3 +1,4 @@
+-- `engine::trisculap_check` meets its contract: it returns and tells what `trail::check` answers.
 use Rattle.engine.specs.Coded.{code_of}
 use Rattle.trail.specs.State.{said}
 use mathlib.Core.Path.{ap, ◌∙◌}

@@ -1,3 +1,4 @@
+-- `engine::trisculap_copy` meets its contract: it returns and tells what `copy::copy_term` answers.
 use Rattle.copy.specs.Calls.{said_at}
 use Rattle.engine.specs.Coded.{told_done, told_refused}
 use mathlib.Core.Path.{ap}

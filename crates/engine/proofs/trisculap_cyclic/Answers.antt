@@ -1,3 +1,4 @@
+-- `engine::trisculap_cyclic` meets its contract: it returns and tells what `cycle::cycle_verdict` answers.
 use Rattle.engine.specs.Coded.{said_verdict, decides_refused}
 use mathlib.Core.Path.{ap}
 use Rattle.engine.proofs.trisculap_cyclic.Goals as goal

@@ -1,3 +1,4 @@
+-- `engine::trisculap_follow` meets its contract: it returns and tells what `store::follow` answers.
 use Rattle.engine.specs.Coded.{said_word, tells_done, tells_refused}
 use mathlib.Core.Path.{ap}
 use Rattle.engine.proofs.trisculap_follow.Goals as goal

@@ -1,3 +1,4 @@
+-- `engine::trisculap_mark` meets its contract: it returns and tells what `marks::mark` answers.
 use Rattle.marks.specs.Calls.{said_mark}
 use Rattle.engine.specs.Coded.{told_done, told_refused}
 use mathlib.Core.Path.{ap}

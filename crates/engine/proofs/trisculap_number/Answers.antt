@@ -1,3 +1,4 @@
+-- `engine::trisculap_number` meets its contract: it returns and tells what `cell::number_cell` answers.
 use Rattle.engine.specs.Coded.{said_word, tells_done, tells_refused}
 use mathlib.Core.Path.{◌≡◌, ap, ◌∙◌}
 use mir.Facts.{to_z-of_z}

@@ -1,3 +1,4 @@
+-- `engine::trisculap_unify_checked` meets its contract: it returns and tells what `unifier::unify_with_occurs_check` answers.
 use Rattle.engine.specs.Coded.{decided_yes, decided_no, decided_refused}
 use Rattle.unifier.specs.Answers.{said_of}
 use mathlib.Core.Path.{ap}

@@ -1,3 +1,4 @@
+-- `marks::cut` meets its contract: the check's answer and the count decide, and the marks above `k` become 0.
 use mathlib.Core.Path.{◌∙◌, sym}
 use native.Mathlib.Omega.{arith}
 use borrow.Author.Tests.{lt-leb, le-leb}

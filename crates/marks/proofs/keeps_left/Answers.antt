@@ -1,3 +1,4 @@
+-- `marks::keeps_left` meets its contract: a cell that becomes unbound keeps to its row, and of any other cell its kind says what is left to ask.
 use mathlib.Core.Path.{◌≡◌, refl, sym, ap, ◌∙◌}
 use mathlib.Core.Bool.{Bool}
 use Prim.Native.Nat.{ℕ, ◌+◌, ◌-◌, ◌≤◌}

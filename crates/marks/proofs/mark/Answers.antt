@@ -1,3 +1,4 @@
+-- `marks::mark` meets its contract: the check's answer and the room decide, and the two words are those of the definition.
 use mathlib.Core.Path.{◌≡◌}
 use native.Mathlib.Omega.{arith}
 use mathlib.Core.Bool.{Bool, true, false}

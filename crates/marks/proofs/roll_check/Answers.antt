@@ -1,3 +1,4 @@
+-- `marks::roll_check` meets its contract: the refusals in the definition's order.
 use mathlib.Core.Path.{◌≡◌, ◌∙◌, sym, ap}
 use native.Mathlib.Omega.{arith}
 use borrow.Author.Tests.{lt-leb, le-leb}
@@ -23,7 +24,8 @@ unfolding roll_check
 returns-then-marked-k c =
     rw (← c.check.ensures, c.in_default.is, le-leb 1 _ c.if-k-lt1.false, lt-leb _ _ c.if-marked-k.true)
 
-past : (c : Else-marked-k) → Passed (let a = c.args in state_of a.cells.now a.top a.trail.now a.trailed a.marks.now a.marked) c.args.k
+-- what is known of the state at the call past the first three tests
+past : (c : Else-marked-k) → let a = c.args in Passed (state_of a.cells.now a.top a.trail.now a.trailed a.marks.now a.marked) a.k
 past c =
     record { held = holds_parts _ (check_passed _ (sym c.in_default.is ∙ c.check.ensures)); low = c.if-k-lt1.false; high = c.if-marked-k.false }
 
@@ -34,14 +36,13 @@ pub left_good-requires : goal.left_good-requires
 left_good-requires c = let n = c.counts_at-at.ensures in (_, lowers_to _ _ (past (goal.at.left_good-requires c).Else-marked-k) n.0 n.1)
 
 -- what the pass found decides the rest
-found : (c : After-left_good) → need c.left_good.result Left ≡ roll_check (let a = c.args in state_of a.cells.now a.top a.trail.now a.trailed a.marks.now a.marked) c.args.k
-found c =
-    let p : Passed (let a = c.args in state_of a.cells.now a.top a.trail.now a.trailed a.marks.now a.marked) c.args.k = record { held = holds_parts _ (check_passed _ (sym c.in_default.is ∙ c.check.ensures)); low = c.if-k-lt1.false; high = c.if-marked-k.false } in
+found : (c : After-left_good) → let a = c.args in let s = state_of a.cells.now a.top a.trail.now a.trailed a.marks.now a.marked in Passed s a.k → need c.left_good.result Left ≡ roll_check s a.k
+found c p =
     let n = c.counts_at-at.ensures in
     sym (left_decides _ _ p ∙ ap (λ (b : Bool). need b Left) (found_is _ _ p _ _ n.0 n.1 _ c.left_good.ensures))
 
 pub returns-then-left_good : goal.returns-then-left_good
-returns-then-left_good c = rw c.if-left_good.true at (found (goal.at.returns-then-left_good c).After-left_good)
+returns-then-left_good c = let here = goal.at.returns-then-left_good c in rw c.if-left_good.true at (found here.After-left_good (past here.Else-marked-k))
 
 pub returns-else-left_good : goal.returns-else-left_good
-returns-else-left_good c = rw c.if-left_good.false at (found (goal.at.returns-else-left_good c).After-left_good)
+returns-else-left_good c = let here = goal.at.returns-else-left_good c in rw c.if-left_good.false at (found here.After-left_good (past here.Else-marked-k))

@@ -1,3 +1,4 @@
+-- `marks::rollback` meets its contract: the check decides, and what is then written is what the definition says.
 use mathlib.Core.Path.{◌≡◌, ◌∙◌, sym}
 use native.Mathlib.Omega.{arith}
 use Rattle.trail.specs.declared.Answer.TheVariants.{Done}
@@ -11,11 +12,12 @@ pub returns-in-Refused : goal.returns-in-Refused
 unfolding rolling
 returns-in-Refused c = rw (← c.roll_check.ensures, c.in-Refused.is)
 
-rolls : (c : In_default) → roll_check (let a = c.args in state_of a.cells.now a.top.now a.trail.now a.trailed.now a.marks.now a.marked.now) c.args.k ≡ Done
+-- what is known of the state at the call past the check
+rolls : (c : In_default) → let a = c.args in roll_check (state_of a.cells.now a.top.now a.trail.now a.trailed.now a.marks.now a.marked.now) a.k ≡ Done
 rolls c = sym c.roll_check.ensures ∙ c.in_default.is
 
-past : (c : In_default) → Passed (let a = c.args in state_of a.cells.now a.top.now a.trail.now a.trailed.now a.marks.now a.marked.now) c.args.k
-past c = passed _ _ (sym c.roll_check.ensures ∙ c.in_default.is)
+past : (c : In_default) → let a = c.args in Passed (state_of a.cells.now a.top.now a.trail.now a.trailed.now a.marks.now a.marked.now) a.k
+past c = passed _ _ (rolls c)
 
 pub counts_at-at-requires : goal.counts_at-at-requires
 counts_at-at-requires c = let p = past c in let f = p.held.marks_good_lem.fits in (p.low, (let h = p.high in omega arith))

@@ -1,3 +1,4 @@
+-- `store::cells_end` meets its contract: no cell is noted in a table of zeros, small or not.
 use Prim.Native.Nat.{◌/◌}
 use native.Mathlib.Omega.{arith}
 use Rattle.store.specs.Store.{limit}

@@ -1,3 +1,4 @@
+-- `store::follow` meets its contract: the definition's tests in its order.
 use mathlib.Core.Path.{◌≡◌, ◌∙◌, sym}
 use mathlib.Core.Bool.{true}
 use native.Mathlib.Omega.{arith}
@@ -16,7 +17,7 @@ good : (c : Else-not-check_cells) → well_formed c.args.cells.now c.args.top �
 good c = sym c.check_cells.ensures ∙ c.if-not-check_cells.false
 
 facts : (c : Else-not-check_cells) → WellFormed c.args.cells.now c.args.top
-facts c = parts _ _ (sym c.check_cells.ensures ∙ c.if-not-check_cells.false)
+facts c = parts _ _ (good c)
 
 -- past the second the cell stands for a term
 term : (c : Else-not-term_at) → let a = c.args in term_at a.cells.now a.top a.at ≡ true

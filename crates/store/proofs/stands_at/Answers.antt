@@ -1,3 +1,4 @@
+-- `store::stands_at` meets its contract: each kind's row of the table.
 use mathlib.Core.Path.{◌∙◌, refl, sym}
 use native.Mathlib.Omega.{arith}
 use Rattle.store.specs.Survey.{kept_of}

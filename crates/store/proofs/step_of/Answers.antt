@@ -1,3 +1,4 @@
+-- `store::step_of` meets its contract, by the kind.
 use Rattle.store.proofs.ByKind.{step_stays, step_goes}
 use Rattle.store.proofs.step_of.Goals as goal
 

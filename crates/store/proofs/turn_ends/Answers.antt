@@ -1,3 +1,4 @@
+-- `store::turn_ends` meets its contract: the way does not turn, or it turns at a cell that is noted, or that it is walked from.
 use mathlib.Core.Path.{◌∙◌, sym, ap, subst}
 use mathlib.Core.Bool.{false≢true}
 use Prim.Native.Nat.{◌<◌, ◌≤◌}

@@ -1,3 +1,4 @@
+-- `store::turns_at` meets its contract: the definition's two comparisons.
 use borrow.Author.Tests.{lt-ltb, le-ltb}
 use Rattle.store.specs.Turns.{turns_at}
 use Rattle.store.proofs.turns_at.Goals as goal

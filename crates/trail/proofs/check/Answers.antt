@@ -1,3 +1,4 @@
+-- `trail::check` meets its contract: the rules of the cells, of the trail and of the marks in this order.
 use mathlib.Core.Path.{◌≡◌, ◌∙◌, sym}
 use mathlib.Core.Bool.{true}
 use Rattle.store.specs.All.{and_fails, and_goes}

@@ -1,3 +1,4 @@
+-- `trail::trail_good` meets its contract: both tests in the definition's order.
 use mathlib.Core.Path.{◌∙◌, sym}
 use Rattle.trail.specs.Rules.{trail_good}
 use Rattle.store.specs.All.{and_fails, and_goes}

@@ -1,3 +1,4 @@
+-- `unifier::free_at` meets its contract: an unbound Var is the word that names its own cell.
 use mathlib.Core.Path.{sym, ◌∙◌}
 use native.Mathlib.Omega.{arith}
 use borrow.Author.Tests.{eq-eqb, ne_eqb}

@@ -1,3 +1,4 @@
+-- `unifier::plain_check` meets its contract: the refusals in the definition's order.
 use mathlib.Core.Path.{◌≡◌, sym, ◌∙◌}
 use mathlib.Core.Bool.{true}
 use Prim.Native.Nat.{◌≤◌}
@@ -14,31 +15,29 @@ use Rattle.cell.specs.declared.Refusal.TheVariants.{TrailRoom}
 use Rattle.unification.proofs.Asked.{refuses_state, refuses_left, refuses_right, refuses_work}
 use Rattle.unifier.specs.Checks.{room_decides}
 use Rattle.unifier.proofs.plain_check.Goals as goal
-use Rattle.unifier.proofs.plain_check.Goals.{After-trail_room, Else-not-term_at, Else-not-term_at-2, Else-work-work_need, In_default}
+use Rattle.unifier.proofs.plain_check.Goals.{After-trail_room, Else-not-term_at, Else-not-term_at-2, In_default}
 
 pub returns-in-Refused : goal.returns-in-Refused
 returns-in-Refused c = sym (refuses_state _ _ _ _ _ (sym c.check.ensures ∙ c.in-Refused.is))
 
-passed : (c : In_default) → check_of (let a = c.args in state_of a.cells.now a.top a.trail.now a.trailed a.marks.now a.marked) ≡ Done
+-- what is known of the state at the call past each test
+passed : (c : In_default) → let a = c.args in check_of (state_of a.cells.now a.top a.trail.now a.trailed a.marks.now a.marked) ≡ Done
 passed c = sym c.check.ensures ∙ c.in_default.is
 
-held : (c : In_default) → Holds (let a = c.args in state_of a.cells.now a.top a.trail.now a.trailed a.marks.now a.marked)
-held c = holds_parts _ (check_passed _ (sym (sym c.check.ensures ∙ c.in_default.is)))
+held : (c : In_default) → let a = c.args in Holds (state_of a.cells.now a.top a.trail.now a.trailed a.marks.now a.marked)
+held c = holds_parts _ (check_passed _ (sym (passed c)))
 
-formed : (c : In_default) → WellFormed (let a = c.args in state_of a.cells.now a.top a.trail.now a.trailed a.marks.now a.marked).cells (let a = c.args in state_of a.cells.now a.top a.trail.now a.trailed a.marks.now a.marked).top
-formed c = parts _ _ ((holds_parts _ (check_passed _ (sym (sym c.check.ensures ∙ c.in_default.is))))).cells_good
+formed : (c : In_default) → let a = c.args in WellFormed a.cells.now a.top
+formed c = parts _ _ (held c).cells_good
 
-left : (c : Else-not-term_at) → term_at (let a = c.args in state_of a.cells.now a.top a.trail.now a.trailed a.marks.now a.marked).cells (let a = c.args in state_of a.cells.now a.top a.trail.now a.trailed a.marks.now a.marked).top c.args.a ≡ true
+left : (c : Else-not-term_at) → let a = c.args in term_at a.cells.now a.top a.a ≡ true
 left c = sym c.term_at.ensures ∙ c.if-not-term_at.false
 
-right : (c : Else-not-term_at-2) → term_at (let a = c.args in state_of a.cells.now a.top a.trail.now a.trailed a.marks.now a.marked).cells (let a = c.args in state_of a.cells.now a.top a.trail.now a.trailed a.marks.now a.marked).top c.args.b ≡ true
+right : (c : Else-not-term_at-2) → let a = c.args in term_at a.cells.now a.top a.b ≡ true
 right c = sym c.term_at-2.ensures ∙ c.if-not-term_at-2.false
 
-wide : (c : Else-work-work_need) → work_need (let a = c.args in state_of a.cells.now a.top a.trail.now a.trailed a.marks.now a.marked).top ≤ length c.args.work.now
-wide c = let e = c.work_need.ensures in omega arith
-
 -- the last test decides
-decided : (c : After-trail_room) → need c.trail_room.result TrailRoom ≡ plain_check (let a = c.args in state_of a.cells.now a.top a.trail.now a.trailed a.marks.now a.marked) c.args.work.now c.args.a c.args.b
+decided : (c : After-trail_room) → let a = c.args in need c.trail_room.result TrailRoom ≡ plain_check (state_of a.cells.now a.top a.trail.now a.trailed a.marks.now a.marked) a.work.now a.a a.b
 decided c = room_decides _ _ _ _ (sym c.check.ensures ∙ c.in_default.is) (sym c.term_at.ensures ∙ c.if-not-term_at.false) (sym c.term_at-2.ensures ∙ c.if-not-term_at-2.false) (let e = c.work_need.ensures in omega arith) _ c.trail_room.ensures
 
 pub term_at-requires : goal.term_at-requires
@@ -68,7 +67,7 @@ pub trail_room-requires : goal.trail_room-requires
 trail_room-requires c = let w = formed (goal.at.trail_room-requires c).In_default in (w.high, w.room)
 
 pub returns-then-not-trail_room : goal.returns-then-not-trail_room
-returns-then-not-trail_room c = rw (c.if-not-trail_room.true) at (decided (goal.at.returns-then-not-trail_room c).After-trail_room)
+returns-then-not-trail_room c = rw c.if-not-trail_room.true at (decided (goal.at.returns-then-not-trail_room c).After-trail_room)
 
 pub returns : goal.returns
-returns c = rw (c.if-not-trail_room.false) at (decided (goal.at.returns c).After-trail_room)
+returns c = rw c.if-not-trail_room.false at (decided (goal.at.returns c).After-trail_room)

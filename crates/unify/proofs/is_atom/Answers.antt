@@ -1,3 +1,4 @@
+-- `unify::is_atom` meets its contract, by the test of the name.
 use Rattle.unify.specs.Arms.{atom_named_lem, atom_other}
 use Rattle.unify.proofs.is_atom.Goals as goal
 

@@ -1,3 +1,4 @@
+-- `unify::is_dot` meets its contract, by the test of the name.
 use Rattle.unify.specs.Arms.{dot_named, dot_other}
 use Rattle.unify.proofs.is_dot.Goals as goal
 

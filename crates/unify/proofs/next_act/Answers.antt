@@ -1,3 +1,4 @@
+-- `unify::next_act` meets its contract: the pair is read, its cells are followed, and the rules are asked.
 use mathlib.Core.Path.{◌≡◌, ap}
 use Prim.Native.Nat.{ℕ, ◌+◌, ◌<◌}
 use native.Mathlib.Omega.{arith}
@@ -8,6 +9,7 @@ use Rattle.unify.specs.Looking.{cells_inside, same_words_lem, left_asks, right_a
 use Rattle.unify.proofs.next_act.Goals as goal
 use Rattle.unify.proofs.next_act.Goals.{After-pair_place-at}
 
+-- the cells of the pair
 cell_x : (c : After-pair_place-at) → let a = c.args in (get_or c.args.work.now c.pair_place-at.result 0) ≡ (pair_at a.top a.work.now a.pairs).0
 cell_x c = ap (λ (k : ℕ). get_or c.args.work.now k 0) c.pair_place-at.ensures
 

@@ -1,3 +1,4 @@
+-- `unify::push` meets its contract: two words are written, and the pair is read back from them.
 use native.Mathlib.Omega.{arith}
 use lib.ListN.{length-set}
 use Rattle.unify.specs.Layout.{push_one}

@@ -1,3 +1,4 @@
+-- `unify::start` meets its contract: three writes to three parts of the work buffer.
 use native.Mathlib.Omega.{arith}
 use Rattle.unify.specs.Whole.{start_is}
 use Rattle.unify.proofs.start.Goals as goal

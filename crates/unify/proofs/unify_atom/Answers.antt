@@ -1,3 +1,4 @@
+-- `unify::unify_atom` meets its contract, by the kind of the other cell.
 use mathlib.Core.Path.{sym, ◌∙◌}
 use Rattle.unify.specs.Arms.{right_atom, atom_var, atoms_same, atoms_apart, atom_str, atom_not_str, atom_else}
 use Rattle.unify.proofs.unify_atom.Goals as goal

@@ -1,3 +1,4 @@
+-- `unify::unify_fixnum` meets its contract, by the kind of the other cell.
 use mathlib.Core.Path.{sym, ap, ◌∙◌}
 use mir.Val.{of_z, to_z}
 use mir.Syntax.{w64}

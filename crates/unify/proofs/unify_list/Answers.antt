@@ -1,3 +1,4 @@
+-- `unify::unify_list` meets its contract, by the kind of the other cell.
 use mathlib.Core.Path.{sym, ◌∙◌}
 use native.Mathlib.Omega.{arith}
 use Rattle.unify.specs.Arms.{right_atom, lis_var, lis_same, lis_pair, lis_str, lis_not_str, lis_other}

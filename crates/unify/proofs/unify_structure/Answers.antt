@@ -1,3 +1,4 @@
+-- `unify::unify_structure` meets its contract, by the kind of the other cell.
 use mathlib.Core.Path.{sym, subst, ◌∙◌}
 use native.Mathlib.Omega.{arith}
 use Rattle.cell.specs.declared.Kind.TheVariants.{Str}

@@ -1,3 +1,4 @@
+-- `unify::unify_var` meets its contract, by the kind of the other cell.
 use native.Mathlib.Omega.{arith}
 use Rattle.unify.specs.Arms.{vars_same, vars_low, vars_high, var_other}
 use Rattle.unify.proofs.unify_var.Goals as goal
