@@ -2,15 +2,8 @@
 use Rattle.std.specs.Prelude.{Bool, ◌&&◌, List, ℕ, ◌+◌, length, leb}
 use Rattle.cell.specs.declared.Refusal.TheVariants.{Room, Words}
 use Rattle.store.specs.Store.{limit, well_formed}
-use Rattle.trail.specs.State.{State, state_of, Outcome, done, refused, check_of, need, ◌then◌, unless}
-use Rattle.append.specs.declared.Placed.{Placed}
-use Rattle.append.specs.declared.Placed.TheVariants.{At, Refused}
+use Rattle.trail.specs.State.{State, state_of, Outcome, done, check_of, need, ◌then◌, unless}
 use Rattle.append.specs.Laid.{laid}
-
--- what the answer says
-abbrev pub said_at : Placed → Outcome
-said_at (At n) = done n
-said_at (Refused r) = refused r
 
 -- there is room for n cells more: they pass neither the limit nor the lent cells
 abbrev pub room_for : List ℕ → ℕ → ℕ → Bool

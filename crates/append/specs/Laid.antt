@@ -1,14 +1,13 @@
 -- Words laid over the front of a list, and over a list from a place on.
-use Rattle.std.specs.Prelude.{◌≡◌, refl, set}
-use Rattle.std.proofs.Common.{sym, ◌∙◌, not-suc-le-zero, le_of_suc-le-suc, add-one, length-append, length-drop}
+use Rattle.std.specs.Prelude.{◌≡◌}
+use Rattle.std.proofs.Common.{sym, ◌∙◌, length-append, length-drop}
 use Rattle.std.proofs.Math.Path.{ap}
-use mathlib.Core.List.{List, [], ◌∷◌, ◌++◌, append-nil}
-use Prim.Native.Nat.{ℕ, zero, suc, ◌+◌, ◌-◌, ◌<◌, ◌≤◌}
+use mathlib.Core.List.{List, ◌++◌}
+use Prim.Native.Nat.{ℕ, ◌+◌, ◌-◌, ◌<◌, ◌≤◌}
 use native.Mathlib.Omega.{arith}
 use Rattle.std.proofs.Math.ListN.{length, get_or, take, drop, length-take, get_or-append}
-use Rattle.std.proofs.Math.Seq.{take-length, length-take-le, get_or-drop, get_or-take, get_or-append-add}
-use borrow.Rule.Slice.PartMut.{mid_of, put_mid}
-use Rattle.store.specs.Part.{mid_is, post_is}
+use Rattle.std.proofs.Math.Seq.{length-take-le, get_or-drop, get_or-take, get_or-append-add}
+use borrow.Rule.Slice.PartMut.{put_mid}
 use Rattle.store.specs.Zeros.{zeroed, zeroed_is}
 
 -- the words ws in place of the first of d
@@ -19,30 +18,10 @@ front ws d = ws ++ drop (length ws) d
 unfoldable pub laid : List ℕ → ℕ → List ℕ → List ℕ
 laid s at ws = take at s ++ front ws (drop at s)
 
--- ---- the loop that lays them: `i` are laid
-module _ (i : ℕ) (ws d : List ℕ) where
-  lay_suc : i < length ws → length ws ≤ length d → set (take i ws ++ drop i d) i (get_or ws i 0) ≡ take (suc i) ws ++ drop (suc i) d
-  lay_suc = go i ws d
-    where
-      go : (i : ℕ) (ws d : List ℕ) → i < length ws → length ws ≤ length d → set (take i ws ++ drop i d) i (get_or ws i 0) ≡ take (suc i) ws ++ drop (suc i) d
-      go i [] d h l = absurd (not-suc-le-zero h)
-      go i (w ∷ ws) [] h l = absurd (not-suc-le-zero l)
-      go zero (w ∷ ws) (x ∷ d) h l = refl
-      go (suc i) (w ∷ ws) (x ∷ d) h l = ap (λ (t : List ℕ). w ∷ t) (go i ws d (le_of_suc-le-suc h) (le_of_suc-le-suc l))
-
-  module _ (x : List ℕ) (e : x ≡ take i ws ++ drop i d) where
-    pub lay_more : i < length ws → length ws ≤ length d → set x i (get_or ws i 0) ≡ take (i + 1) ws ++ drop (i + 1) d
-    lay_more h l = rw (add-one i) (ap (λ (y : List ℕ). set y i (get_or ws i 0)) e ∙ lay_suc h l)
-
-    pub lay_done : i ≡ length ws → x ≡ front ws d
-    unfolding front
-    lay_done q = e ∙ rw (q, take-length)
-
--- ---- what a callee left in the part from a place to the end, said of the whole
-module _ (s : List ℕ) (top : ℕ) (within : top ≤ length s) where
-  pub put_laid : (ws y : List ℕ) → y ≡ front ws (mid_of top (length s - top) s) → put_mid top (length s - top) s y ≡ laid s top ws
-  unfolding laid
-  put_laid ws y e = ap (λ (r : List ℕ). take top s ++ r) (ap (λ (r : List ℕ). y ++ r) (post_is s top within) ∙ append-nil y ∙ e ∙ ap (front ws) (mid_is s top within))
+-- ---- the words written over a part of the list, as long as they are, said of the whole
+pub put_laid : (s : List ℕ) (at : ℕ) (ws : List ℕ) {k : ℕ} → k ≡ length ws → put_mid at k s ws ≡ laid s at ws
+unfolding laid front
+put_laid s at ws e = rw e
 
 -- ---- what stands where
 module _ (s : List ℕ) (top : ℕ) (ws : List ℕ) (fits : top + length ws ≤ length s) where

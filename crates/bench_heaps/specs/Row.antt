@@ -6,8 +6,7 @@ use Prim.Native.String.{String}
 use Rattle.std.proofs.Math.Decide.{ℕ_discrete}
 use Rattle.std.proofs.Common.{eqb-true}
 use Rattle.cell.specs.Answers.{refusal_number}
-use Rattle.trail.specs.State.{State, Outcome, done, failed, refused, same_state_lem}
-use Rattle.cycle.specs.declared.Verdict.{Verdict}
+use Rattle.trail.specs.State.{State, Outcome, done, failed, refused, said_yes, same_state_lem}
 use Rattle.cycle.specs.Verdict.{verdict_of}
 use Rattle.unification.specs.Calls.{plainly, checkedly}
 use Rattle.copy.specs.Calls as Copy
@@ -29,11 +28,11 @@ pub data Answer : Type 0 where
   Refusal : ℕ → Answer
   deriving Discrete as answer_discrete
 
--- what plain and checked unification say
-abbrev unified : Outcome → Answer
-unified (done n) = Yes
-unified failed = No
-unified (refused r) = Refusal (refusal_number r)
+-- what plain and checked unification and the cycle verdict say
+abbrev judged : Outcome → Answer
+judged (done n) = Yes
+judged failed = No
+judged (refused r) = Refusal (refusal_number r)
 
 -- what a copy says
 abbrev placed : Outcome → Answer
@@ -41,22 +40,16 @@ placed (done n) = At n
 placed failed = No
 placed (refused r) = Refusal (refusal_number r)
 
--- what the cycle verdict says
-abbrev judged : Verdict → Answer
-judged Verdict.Yes = Yes
-judged Verdict.No = No
-judged (Verdict.Refused r) = Refusal (refusal_number r)
-
 -- the answer told in these words
 abbrev telling : (Outcome → Answer) → Outcome × Lent → Answer × Lent
 telling f r = (f r.0, r.1)
 
 -- what a call answers, and all that is lent after it, by the calls' definitions
 abbrev pub asking : Lent → Asked → Answer × Lent
-asking l (plain x y) = telling unified (with (plainly l.state l.work x y))
-asking l (checked x y) = telling unified (with (checkedly l.state l.work x y))
+asking l (plain x y) = telling judged (with (plainly l.state l.work x y))
+asking l (checked x y) = telling judged (with (checkedly l.state l.work x y))
 asking l (copy x) = telling placed (besides l.state (Copy.copying (Copy.lent l.state.cells l.state.top l.work) x))
-asking l (cycle x) = (judged (verdict_of l.state.cells l.state.top x), l)
+asking l (cycle x) = telling judged (said_yes (verdict_of l.state.cells l.state.top x), l)
 
 -- ---- rows
 -- a name, all that is lent before, the call, its answer, and all that is lent after
@@ -107,7 +100,7 @@ holds_of (yes p) = true
 holds_of (no p) = false
 
 unfoldable pub same_answer : Answer → Answer → Bool
-unfolding answer_discrete ℕ_discrete
+unfolding ℕ_discrete
 same_answer a b = holds_of (answer_discrete ℕ_discrete a b)
 
 -- the call is computed, and its answer and all that is lent after it are compared

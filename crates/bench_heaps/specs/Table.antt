@@ -6,8 +6,6 @@ use Rattle.cell.specs.declared.Kind.{Kind}
 use Rattle.cell.specs.declared.Kind.TheVariants.{Var, Str, Lis, Atom, Fixnum}
 use Rattle.trail.specs.State.{state_of}
 use Rattle.chains.specs.Work.{work_need}
-use Rattle.unification.specs.Machine as Machine
-use Rattle.copy.specs.Rules as Rules
 use Rattle.histories.specs.Calls.{Lent, lent}
 use Rattle.bench_heaps.specs.Row.{plain, checked, copy, cycle, Answer, Yes, No, At, Refusal, Row, row}
 

@@ -1,4 +1,5 @@
 -- The code's signed arithmetic: what 64-bit numbers and their tests come to in two's complement on 56 bits. A proof has a signed local as `to_z w64 (of_z w64 z)`, read back from its bits.
+use Rattle.std.specs.Prelude.{Ok, Err}
 use mathlib.Core.Path.{◌≡◌, refl, sym, ap, subst, subst⁻¹, ◌∙◌}
 use mathlib.Core.Bool.{true, false}
 use Prim.Native.Nat.{ℕ, suc, ◌-◌, ◌^◌, ◌<◌, ◌≤◌}
@@ -11,7 +12,6 @@ use mir.Syntax.{w64}
 use mir.Val.{to_z, of_z, SFits, Fits}
 use mir.Facts.{to_z_pos, to_z-of_z}
 use borrow.Author.Tests.{lt-ltb, le-ltb, ltb-true, ltb-false}
-use Rattle.cell.specs.declared.Made.TheVariants.{Word, Refused}
 use Rattle.cell.specs.declared.Refusal.TheVariants.{Number}
 use Rattle.cell.specs.Word.{word_of}
 use Rattle.cell.specs.Fixnum.{to_number, of_number, in_range, value_lt}
@@ -97,17 +97,17 @@ module _ (z : ℤ) (f : SFits w64 z) where
     pub cast_lt : (y : ℤ) → y ≡ pos (of_number z) → nat_abs y < 2 ^ 56
     cast_lt y e = rw e (value_lt z r)
 
-    pub made : (y : ℤ) (w : ℕ) → y ≡ pos (of_number z) → w ≡ word_of 5 0 0 (nat_abs y) → Word w ≡ number_cell z
+    pub made : (y : ℤ) (w : ℕ) → y ≡ pos (of_number z) → w ≡ word_of 5 0 0 (nat_abs y) → Ok w ≡ number_cell z
     unfolding number_cell
-    made y w e q = rw r (ap Word (q ∙ ap (λ (n : ℤ). word_of 5 0 0 (nat_abs n)) e))
+    made y w e q = rw r (ap Ok (q ∙ ap (λ (n : ℤ). word_of 5 0 0 (nat_abs n)) e))
 
-pub refused : (z : ℤ) → in_range z ≡ false → Refused Number ≡ number_cell z
+pub refused : (z : ℤ) → in_range z ≡ false → Err Number ≡ number_cell z
 unfolding number_cell
 refused z r = rw r
 
 -- ---- the word of a Fixnum, through a call with the number read back from its bits
 module _ (z : ℤ) (r : in_range z ≡ true) where
-  made_is : number_cell z ≡ Word (word_of 5 0 0 (of_number z))
+  made_is : number_cell z ≡ Ok (word_of 5 0 0 (of_number z))
   unfolding number_cell
   made_is = rw r
 
@@ -115,5 +115,5 @@ module _ (z : ℤ) (r : in_range z ≡ true) where
   fits (pos a) h = record { sfits = omega (arith, ltb-true a (2 ^ 55) h) }
   fits (negsuc a) h = record { sfits = omega (arith, ltb-true a (2 ^ 55) h) }
 
-  pub called : number_cell (to_z w64 (of_z w64 z)) ≡ Word (word_of 5 0 0 (of_number z))
+  pub called : number_cell (to_z w64 (of_z w64 z)) ≡ Ok (word_of 5 0 0 (of_number z))
   called = ap number_cell (to_z-of_z (fits z r)) ∙ made_is

@@ -1,7 +1,5 @@
 -- The refusals' numbers, and what making a number cell answers.
-use Rattle.std.specs.Prelude.{cond, ℕ, ℤ}
-use Rattle.cell.specs.declared.Made.{Made}
-use Rattle.cell.specs.declared.Made.TheVariants.{Word, Refused}
+use Rattle.std.specs.Prelude.{cond, ℕ, ℤ, Ok, Err, Result}
 use Rattle.cell.specs.declared.Refusal.{Refusal}
 use Rattle.cell.specs.declared.Refusal.TheVariants.{Cells, Trail, Root, Work, TrailRoom, Cycle, Room, Mark, Words, Left, Number}
 use Rattle.cell.specs.Word.{word_of}
@@ -22,5 +20,5 @@ refusal_number Left = 10
 refusal_number Number = 11
 
 -- the word of a Fixnum, or refusal 11 outside its range
-unfoldable pub number_cell : ℤ → Made
-number_cell z = cond (in_range z) (Word (word_of 5 0 0 (of_number z))) (Refused Number)
+unfoldable pub number_cell : ℤ → Result ℕ Refusal
+number_cell z = cond (in_range z) (Ok (word_of 5 0 0 (of_number z))) (Err Number)

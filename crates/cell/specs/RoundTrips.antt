@@ -1,10 +1,9 @@
 -- From a kind to its word and back, from a word to its kind and back, and from a number to its cell and back; three example words.
-use Rattle.std.specs.Prelude.{◌≡◌, refl, Bool, true, false, cond, ℕ, ◌+◌, ◌*◌, ◌/◌, ◌-◌, ◌^◌, ◌<◌, ℤ, pos, negsuc}
+use Rattle.std.specs.Prelude.{◌≡◌, refl, Bool, true, false, cond, ℕ, ◌+◌, ◌*◌, ◌/◌, ◌-◌, ◌^◌, ◌<◌, ℤ, pos, negsuc, Ok, Err}
 use Rattle.std.proofs.Common.{sym, ap, subst, ◌∙◌, arith}
 use Rattle.std.proofs.lemmas.Bool.{false≢true}
 use Rattle.cell.specs.declared.Kind.{Kind}
 use Rattle.cell.specs.declared.Kind.TheVariants.{Var, Str, Lis, Atom, Fixnum, Bad}
-use Rattle.cell.specs.declared.Made.TheVariants.{Word, Refused}
 use Rattle.cell.specs.declared.Refusal.TheVariants.{Number}
 use Rattle.cell.specs.Answers.{number_cell}
 use Rattle.cell.specs.Word.{value_of, name_of, arity_of, spare_of, arity_bits, word_of, rebuilt}
@@ -75,34 +74,34 @@ minus_one = refl
 
 -- ---- numbers
 -- the cell that is made of a number reads as that number
-pub number_read : (z : ℤ) (w : ℕ) → number_cell z ≡ Word w → kind_of w ≡ Fixnum z
+pub number_read : (z : ℤ) (w : ℕ) → number_cell z ≡ Ok w → kind_of w ≡ Fixnum z
 unfolding number_cell word_of_kind Proper
 number_read z w = go (in_range z) refl
   where
-    go : (b : Bool) → in_range z ≡ b → cond b (Word (word_of 5 0 0 (of_number z))) (Refused Number) ≡ Word w → kind_of w ≡ Fixnum z
+    go : (b : Bool) → in_range z ≡ b → cond b (Ok (word_of 5 0 0 (of_number z))) (Err Number) ≡ Ok w → kind_of w ≡ Fixnum z
     go true r e = let q : word_of 5 0 0 (of_number z) ≡ w = cc in ap kind_of (sym q) ∙ kind_back (Fixnum z) r
     go false r e = let q : true ≡ false = cc in absurd (false≢true (sym q))
 
 -- a Fixnum cell is made again from its number
-pub number_again : (w : ℕ) (z : ℤ) → kind_of w ≡ Fixnum z → number_cell z ≡ Word w
+pub number_again : (w : ℕ) (z : ℤ) → kind_of w ≡ Fixnum z → number_cell z ≡ Ok w
 unfolding number_cell word_of_kind Proper
 number_again w z e =
     let n : kind_of w ≡ Bad → ⊥ = λ b. (let q : true ≡ false = cc in false≢true (sym q)) in
-    rw (subst Proper e (kind_proper w n)) (ap Word (ap word_of_kind (sym e) ∙ word_back w n))
+    rw (subst Proper e (kind_proper w n)) (ap Ok (ap word_of_kind (sym e) ∙ word_back w n))
 
 -- both ends of the range, and one past each
-most : number_cell (pos (2 ^ 55 - 1)) ≡ Word 0x147FFFFFFFFFFFFF
+most : number_cell (pos (2 ^ 55 - 1)) ≡ Ok 0x147FFFFFFFFFFFFF
 unfolding number_cell of_number
 most = refl
 
-past_most : number_cell (pos (2 ^ 55)) ≡ Refused Number
+past_most : number_cell (pos (2 ^ 55)) ≡ Err Number
 unfolding number_cell
 past_most = refl
 
-least : number_cell (negsuc (2 ^ 55 - 1)) ≡ Word 0x1480000000000000
+least : number_cell (negsuc (2 ^ 55 - 1)) ≡ Ok 0x1480000000000000
 unfolding number_cell of_number
 least = refl
 
-past_least : number_cell (negsuc (2 ^ 55)) ≡ Refused Number
+past_least : number_cell (negsuc (2 ^ 55)) ≡ Err Number
 unfolding number_cell
 past_least = refl

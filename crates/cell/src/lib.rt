@@ -11,7 +11,7 @@ ghost use Rattle.cell.specs.Answers.{refusal_number, number_cell};
 
 // Why a public call refuses: a case for each row of the table of refusals, in its order. The
 // numbers 1 to 11 are `refusal_number`, in specs/Answers.antt.
-#[derive(Clone, Copy)]
+#[derive(Clone, Copy, PartialEq, Eq)]
 pub enum Refusal {
     Cells,
     Trail,
@@ -27,33 +27,28 @@ pub enum Refusal {
 }
 
 // The number of a refusal.
-pub fn refusal_number(r: Refusal) -> u64
-    ensures { result ≡ refusal_number r }
-{
-    match r {
-        Refusal::Cells => 1,
-        Refusal::Trail => 2,
-        Refusal::Root => 3,
-        Refusal::Work => 4,
-        Refusal::TrailRoom => 5,
-        Refusal::Cycle => 6,
-        Refusal::Room => 7,
-        Refusal::Mark => 8,
-        Refusal::Words => 9,
-        Refusal::Left => 10,
-        Refusal::Number => 11,
+impl From<Refusal> for u64 {
+    ghost from_gives = { λ r n. n ≡ refusal_number r };
+
+    fn from(r: Refusal) -> u64 {
+        match r {
+            Refusal::Cells => 1,
+            Refusal::Trail => 2,
+            Refusal::Root => 3,
+            Refusal::Work => 4,
+            Refusal::TrailRoom => 5,
+            Refusal::Cycle => 6,
+            Refusal::Room => 7,
+            Refusal::Mark => 8,
+            Refusal::Words => 9,
+            Refusal::Left => 10,
+            Refusal::Number => 11,
+        }
     }
 }
 
-// A word, or why there is none.
-#[derive(Clone, Copy)]
-pub enum Made {
-    Word(u64),
-    Refused(Refusal),
-}
-
 // What a word says, with its numbers. Bad keeps to no row of the table of kinds.
-#[derive(Clone, Copy)]
+#[derive(Clone, Copy, PartialEq, Eq)]
 pub enum Kind {
     Var(usize),
     Str(usize),
@@ -135,59 +130,57 @@ fn get_num(v: u64) -> i64
 }
 
 // What a word says, of any word at all.
-pub fn kind_of(w: u64) -> Kind
-    ensures { result ≡ kind_of w }
-{
-    let t = get_tag_bits(w);
-    let v = get_value(w);
-    // Both bits are clear in every row, so these are four times the tags 1 to 5.
-    match t {
-        4 => Kind::Var(v as usize),
-        8 => Kind::Str(v as usize),
-        12 => Kind::Lis(v as usize),
-        16 => {
-            if get_spare(w) == 0 {
-                Kind::Atom {
-                    name: get_name(w),
-                    arity: get_arity(w),
+impl From<u64> for Kind {
+    ghost from_gives = { λ w k. k ≡ kind_of w };
+
+    fn from(w: u64) -> Kind {
+        let v = get_value(w);
+        // Both bits are clear in every row, so these are four times the tags 1 to 5.
+        match get_tag_bits(w) {
+            4 => Kind::Var(v as usize),
+            8 => Kind::Str(v as usize),
+            12 => Kind::Lis(v as usize),
+            16 => {
+                if get_spare(w) == 0 {
+                    Kind::Atom {
+                        name: get_name(w),
+                        arity: get_arity(w),
+                    }
+                } else {
+                    Kind::Bad
                 }
-            } else {
-                Kind::Bad
             }
+            20 => Kind::Fixnum(get_num(v)),
+            _ => Kind::Bad,
         }
-        20 => Kind::Fixnum(get_num(v)),
-        _ => Kind::Bad,
     }
 }
 
-// The cell at a position.
-pub fn read_cell(cells: &[u64], at: usize) -> Cell
-    requires { at < length cells.now }
-    ensures { (result.at ≡ at) × (result.kind ≡ kind_of (get_or cells.now at 0)) }
-{
-    Cell {
-        at,
-        kind: kind_of(cells[at]),
+impl Cell {
+    // The cell at a position.
+    pub fn read(cells: &[u64], at: usize) -> Cell
+        requires { at < length cells.now }
+        ensures { (result.at ≡ at) × (result.kind ≡ kind_of (get_or cells.now at 0)) }
+    {
+        Cell {
+            at,
+            kind: Kind::from(cells[at]),
+        }
     }
 }
 
 // Makes a number cell: its word, or refusal 11 outside the range of a Fixnum.
-pub fn number_cell(n: i64) -> Made
+pub fn number_cell(n: i64) -> Result<u64, Refusal>
     ensures { result ≡ number_cell n }
 {
     if n < FIXNUM_MIN {
-        return Made::Refused(Refusal::Number);
+        return Err(Refusal::Number);
     }
     if FIXNUM_MAX < n {
-        return Made::Refused(Refusal::Number);
+        return Err(Refusal::Number);
     }
-    if n < 0 {
-        let v = (n + 0x0100_0000_0000_0000) as u64;
-        Made::Word(build_with(5, 0, 0, v))
-    } else {
-        let v = n as u64;
-        Made::Word(build_with(5, 0, 0, v))
-    }
+    let v = if n < 0 { n + 0x0100_0000_0000_0000 } else { n };
+    Ok(build_with(5, 0, 0, v as u64))
 }
 
 // The word of a Var that names cell `i`: at cell `i` itself, an unbound one.
@@ -198,20 +191,19 @@ pub fn var_word(i: usize) -> u64
     build_with(1, 0, 0, i as u64)
 }
 
-// The word of a kind whose numbers fit their places.
-pub fn kind_word(k: Kind) -> u64
-    requires { Proper k }
-    ensures { result ≡ word_of_kind k }
-{
-    match k {
-        Kind::Var(v) => build_with(1, 0, 0, v as u64),
-        Kind::Str(v) => build_with(2, 0, 0, v as u64),
-        Kind::Lis(v) => build_with(3, 0, 0, v as u64),
-        Kind::Atom { name, arity } => build_with(4, 0, 0, atom_value(name, arity)),
-        Kind::Fixnum(n) => match number_cell(n) {
-            Made::Word(w) => w,
-            Made::Refused(_) => 0,
-        },
-        Kind::Bad => 0,
+impl Kind {
+    // The word of a kind whose numbers fit their places. No `From`, which would take any numbers.
+    pub fn word(self) -> u64
+        requires { Proper self }
+        ensures { result ≡ word_of_kind self }
+    {
+        match self {
+            Kind::Var(v) => build_with(1, 0, 0, v as u64),
+            Kind::Str(v) => build_with(2, 0, 0, v as u64),
+            Kind::Lis(v) => build_with(3, 0, 0, v as u64),
+            Kind::Atom { name, arity } => build_with(4, 0, 0, atom_value(name, arity)),
+            Kind::Fixnum(n) => number_cell(n).unwrap_or(0),
+            Kind::Bad => 0,
+        }
     }
 }

@@ -1,24 +1,47 @@
-// A set of cells: a table with a bit for each, in words of 64. A cell that is noted is in the set.
+// A set of cells: a table with a bit for each, in words of 64. A cell whose bit is 1 is in the set.
 #![tactic(auto)]
 
-ghost use Rattle.std.specs.Prelude.{◌≡◌, ◌*◌, ◌<◌, eqb, length};
+ghost use Rattle.std.specs.Prelude.{◌≡◌, ◌*◌, ◌<◌, eqb, replicate};
 ghost use Rattle.cell_set.specs.Table.{bit_at, noting};
 
-// Whether a cell is noted.
-pub fn is_noted(table: &[u64], i: usize) -> bool
-    requires { i < 64 * length table.now }
-    ensures { result ≡ eqb (bit_at table.now i) 1 }
-{
-    let w = i / 64;
-    (table[w] >> (i % 64)) & 1 == 1
+use std::marker::Model;
+
+// A set of the first 64 cells for each word. In a contract it is the list of its words.
+#[derive(Drop)]
+pub struct CellSet<const WORDS: usize> {
+    table: [u64; WORDS],
 }
 
-// Notes a cell.
-pub fn note(table: &mut [u64], i: usize)
-    requires { i < 64 * length table.old }
-    ensures { table.new ≡ noting table.old i }
-{
-    let w = i / 64;
-    let bit: u64 = 1 << (i % 64);
-    table[w] |= bit;
+impl<const WORDS: usize> Model for CellSet<WORDS> {
+    ghost use Rattle.std.specs.Prelude.{List, ℕ};
+
+    ghost Value = { List ℕ };
+
+    ghost view = { λ s. s.table };
+}
+
+impl<const WORDS: usize> CellSet<WORDS> {
+    // No cell is in it.
+    pub fn new() -> Self
+        ensures { result ≡ replicate WORDS 0 }
+    {
+        CellSet { table: [0; WORDS] }
+    }
+
+    // Whether a cell is in it.
+    pub fn contains(&self, i: usize) -> bool
+        requires { i < 64 * WORDS }
+        ensures { result ≡ eqb (bit_at self.now i) 1 }
+    {
+        (self.table[i / 64] >> (i % 64)) & 1 == 1
+    }
+
+    // Puts a cell into it.
+    pub fn insert(&mut self, i: usize)
+        requires { i < 64 * WORDS }
+        ensures { self.new ≡ noting self.old i }
+    {
+        let bit: u64 = 1 << (i % 64);
+        self.table[i / 64] |= bit;
+    }
 }

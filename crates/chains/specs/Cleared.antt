@@ -1,19 +1,11 @@
 -- Words of a buffer that become 0: the loop that clears them, and what the buffer then holds.
-use Rattle.std.specs.Prelude.{◌≡◌, List, ◌++◌, ℕ, ◌+◌, ◌-◌, ◌<◌, ◌≤◌, length, set, drop, replicate}
+use Rattle.std.specs.Prelude.{◌≡◌, List, ◌++◌, ℕ, ◌+◌, ◌-◌, ◌<◌, ◌≤◌, length, drop, replicate}
 use Rattle.std.proofs.Common.{sym, ◌∙◌, arith, length-append, length-drop, ext_get_or}
 use Rattle.std.proofs.Math.Path.{ap}
 use Rattle.std.proofs.Math.ListN.{get_or, length-replicate, get_or-append}
 use Rattle.std.proofs.Math.Seq.{get_or-drop, get_or-append-add}
-use Rattle.std.proofs.lemmas.List.Edits.{fill_more}
 use Rattle.store.specs.Zeros.{zero_at}
 use Rattle.chains.specs.Work.{cleared}
-
-pub clear_step : (i : ℕ) (d x : List ℕ) → x ≡ replicate i 0 ++ drop i d → i < length d → set x i 0 ≡ replicate (i + 1) 0 ++ drop (i + 1) d
-clear_step i d x e h = ap (λ (y : List ℕ). set y i 0) e ∙ fill_more i 0 d h
-
-pub clear_done : (i n : ℕ) (d x : List ℕ) → x ≡ replicate i 0 ++ drop i d → i ≡ n → x ≡ cleared n d
-unfolding cleared
-clear_done i n d x e q = e ∙ ap (λ (k : ℕ). replicate k 0 ++ drop k d) q
 
 module _ (n : ℕ) (work : List ℕ) (l : n ≤ length work) where
   pub cleared_long : length (cleared n work) ≡ length work

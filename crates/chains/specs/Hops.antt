@@ -119,9 +119,6 @@ pub record Following (s : List ℕ) (top at : ℕ) (old new : List ℕ) (cur far
   pub left : Hopped s top old new
 
 module _ (s : List ℕ) (top at : ℕ) (old : List ℕ) (ch : Chained s top) (room : top ≤ length old) where
-  pub follow_start : (far : ℕ) → 1 ≤ at → at < top → Hops s top old → Onward s at far → Following s top at old old at far
-  follow_start far l g h o = record { low = l; high = g; same = refl; look = o; left = record { hops = h; long = refl; rest = λ j _. refl } }
-
   module _ (new : List ℕ) (cur far : ℕ) (f : Following s top at old new cur far) where
     pub far_used : (1 ≤ far) × (far < top)
     far_used = onward_used s top ch f.look f.low f.high

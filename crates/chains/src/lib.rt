@@ -20,26 +20,22 @@ pub fn work_need(top: usize) -> usize
 }
 
 // The first `n` words become 0.
+#[tactic(auto, unfolding(crate::specs::Work::cleared))]
 pub fn clear(words: &mut [u64], n: usize)
     requires { n ≤ length words.old }
     ensures { words.new ≡ cleared n words.old }
 {
-    let mut i = 0;
-    while i < n {
-        words[i] = 0;
-        i += 1;
-    }
+    words[..n].fill(0);
 }
 
-// What is remembered of a cell, else one step along its Var.
+// What is remembered of a cell, else one step along its Var. A cleared word, 0, remembers nothing.
 fn onward(cells: &[u64], top: usize, hops: &[u64], i: usize) -> usize
     requires { Chained cells.now top × Hops cells.now top hops.now × (1 ≤ i) × (i < top) × (top ≤ length hops.now) }
     ensures { Onward cells.now i result }
 {
-    if hops[i] == 0 {
-        store::step_of(cells, i)
-    } else {
-        hops[i] as usize
+    match hops[i] {
+        0 => store::step_of(cells, i),
+        far => far as usize,
     }
 }
 

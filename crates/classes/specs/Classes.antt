@@ -1,8 +1,8 @@
 -- The classes that parent words keep, of any function that gives each cell the name of its class: the names may differ, but the same cells are in one class. And what finding, joining and setting apart promise.
-use Rattle.std.specs.Prelude.{◌≡◌, refl, List, ◌⊎◌, ℕ, ◌+◌, ◌<◌, ◌≤◌, length, get_or, set}
+use Rattle.std.specs.Prelude.{◌≡◌, refl, List, ◌⊎◌, ℕ, min, max, ◌<◌, ◌≤◌, length, get_or, set}
 use Rattle.std.proofs.Common.{sym, ap, subst, ◌∙◌, inl, inr, arith, length-set, get_or-set_same, get_or-set_other}
-use Rattle.std.proofs.Math.Decide.{ℕ_discrete}
-use Rattle.classes.specs.Forest.{Lower, Root, here, up, own, unique, names_own, root_of, halve, far_below, far_less, halve_lower, hung, hung_lower, hang_to, hang_other}
+use Rattle.std.proofs.Math.Decide.{ℕ_discrete, dec_lt}
+use Rattle.classes.specs.Forest.{Lower, Root, here, up, own, unique, names_own, root_of, halve, far_below, halve_lower, hung, hung_lower, hang_to, hang_other}
 
 -- two of the first `top` cells end at one name exactly if f gives both one
 pub record Classes (w : List ℕ) (top : ℕ) (f : ℕ → ℕ) : Type 0 where
@@ -75,9 +75,6 @@ pub record Climbs (w₀ : List ℕ) (top i : ℕ) (w : List ℕ) (cur p : ℕ) :
   pub keeps : Keeps w₀ top w
   pub on : (s : ℕ) → Root w cur s → Root w i s
 
-pub climb_start : (w : List ℕ) (top i p : ℕ) → Lower w top → i < top → p ≡ get_or w i 0 → Climbs w top i w i p
-climb_start w top i p l h e = record { lower = l; below = h; parent = e; size = refl; rest = λ j _. refl; keeps = λ j s h d. d; on = λ s d. d }
-
 module _ (w₀ : List ℕ) (top i : ℕ) (w : List ℕ) (x p : ℕ) (c : Climbs w₀ top i w x p) where
   pub climb_inside : (x < length w) × (p < length w) × (get_or w p 0 < length w)
   climb_inside =
@@ -85,9 +82,6 @@ module _ (w₀ : List ℕ) (top i : ℕ) (w : List ℕ) (x p : ℕ) (c : Climbs 
       let f = c.lower.fits in
       let b = c.below in
       rw c.parent (omega arith, omega arith, omega arith)
-
-  pub climb_less : (p ≡ x → ⊥) → get_or w p 0 < x
-  climb_less n = rw c.parent (far_less w top x c.lower c.below (λ q. n (c.parent ∙ q)))
 
   pub climb_more : (q : ℕ) → q ≡ get_or (set w x (get_or w p 0)) (get_or w p 0) 0 → Climbs w₀ top i (set w x (get_or w p 0)) (get_or w p 0) q
   climb_more q e =
@@ -207,14 +201,15 @@ module _ (w : List ℕ) (top a b : ℕ) (l : Lower w top) (la : a < top) (lb : b
         rest = λ j n. get_or-set_other w a j b 0 n;
       }
 
--- ---- setting apart: the cells below n are their own
-pub own_more : (w : List ℕ) (n : ℕ) → n < length w → ((k : ℕ) → k < n → get_or w k 0 ≡ k) → (k : ℕ) → k < n + 1 → get_or (set w n n) k 0 ≡ k
-own_more w n l h k b =
-    elim (ℕ_discrete k n) [
-      | yes e ↦ subst (λ (j : ℕ). get_or (set w n n) j 0 ≡ j) (sym e) (get_or-set_same w n n 0 l)
-      | no d ↦ get_or-set_other w n k n 0 d ∙ h k (omega arith)
-    ]
+  -- whichever is the lower
+  pub join_names : (high low : ℕ) → high ≡ max a b → low ≡ min a b → (a ≡ b → ⊥) → Joined w top a b (set w high low)
+  join_names high low p q n =
+      elim (dec_lt a b) [
+        | yes h ↦ (let x : high ≡ b = omega arith in let y : low ≡ a = omega arith in rw (x, y) (join_low h))
+        | no h ↦ (let g : b < a = omega arith in let x : high ≡ a = omega arith in let y : low ≡ b = omega arith in rw (x, y) (join_high g))
+      ]
 
+-- ---- setting apart: the cells below n are their own
 pub own_all : (w : List ℕ) (top : ℕ) (w' : List ℕ) → top ≤ length w' → ((k : ℕ) → k < top → get_or w' k 0 ≡ k) → ((j : ℕ) → top ≤ j → get_or w' j 0 ≡ get_or w j 0) → Apart w top w'
 own_all w top w' h e r =
     record {

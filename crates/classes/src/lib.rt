@@ -27,21 +27,16 @@ pub fn join(words: &mut [u64], top: usize, a: usize, b: usize)
     requires { Lower words.old top × (a < top) × (b < top) × Root words.old a a × Root words.old b b × (a ≡ b → ⊥) }
     ensures { Joined words.old top a b words.new }
 {
-    if a < b {
-        words[b] = a as u64;
-    } else {
-        words[a] = b as u64;
-    }
+    words[a.max(b)] = a.min(b) as u64;
 }
 
-// Each of the first `top` cells is a class of its own.
+// Each of the first `top` cells is a class of its own. By index, since of what an adapter of `iter_mut`
+// leaves nothing is known.
 pub fn apart(words: &mut [u64], top: usize)
     requires { top ≤ length words.old }
     ensures { Apart words.old top words.new }
 {
-    let mut i = 0;
-    while i < top {
+    for i in 0..top {
         words[i] = i as u64;
-        i += 1;
     }
 }

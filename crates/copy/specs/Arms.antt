@@ -1,55 +1,32 @@
 -- What the arms of the code leave, as the rules say it.
-use Rattle.std.specs.Prelude.{◌≡◌, ℕ, suc, ◌+◌, ◌-◌, ◌<◌, ◌≤◌, length, take, drop}
-use Rattle.std.proofs.Math.Path.{refl, sym, ap, ap₂}
-use Rattle.std.proofs.Common.{◌∙◌, take-append-drop, drop-set-lt}
-use mathlib.Core.List.{List, ◌++◌, append-nil}
+use Rattle.std.specs.Prelude.{◌≡◌, ℕ, suc, ◌+◌, ◌-◌, ◌<◌, length, take, drop}
+use Rattle.std.proofs.Math.Path.{refl, sym, ap}
+use Rattle.std.proofs.Common.{◌∙◌, length-set, drop-set-lt}
+use mathlib.Core.List.{List}
 use native.Mathlib.Omega.{arith}
 use Rattle.std.proofs.Math.Decide.{ℕ_discrete}
 use Rattle.std.proofs.Math.ListN.{get_or, set}
 use Rattle.std.proofs.Math.Seq.{get_or-take, take-set-lt}
-use Rattle.std.proofs.lemmas.List.{take-set-le, drop-set-add}
 use borrow.Author.Tests.{eq-eqb, ne_eqb}
-use borrow.Rule.Slice.PartMut.{mid_of, put_mid}
 use Rattle.cell.specs.declared.Kind.{Kind}
 use Rattle.cell.specs.declared.Kind.TheVariants.{Var, Str, Lis, Atom, Fixnum, Bad}
 use Rattle.cell.specs.Kinds.{kind_of, word_of_kind}
 use Rattle.store.specs.Store.{end_of}
-use Rattle.store.specs.Part.{mid_is, post_is}
 use Rattle.cycle.specs.Kids.{arity_at}
-use Rattle.copy.specs.Rules.{State, table_words, home_at, structure_at, pair_at, end_kind, end_word, copy_run, run, homed, put, act, scan, scanned}
+use Rattle.copy.specs.Rules.{State, table_words, home_at, structure_at, pair_at, end_kind, end_word, copy_run, run, homed, home, put, act, scan, scanned}
 use Rattle.copy.specs.Whole.{scan_on}
 use Rattle.copy.specs.Asks.{state_of, Can}
 
--- a word put into the part of the cells that begins at `top`
-pub put_part : (s : List ℕ) (top : ℕ) → top ≤ length s → (k p w : ℕ) (y : List ℕ) → p ≡ top + k → y ≡ set (mid_of top (length s - top) s) k w → put_mid top (length s - top) s y ≡ set s p w
-put_part s top h k p w y e d =
-    ap (λ (r : List ℕ). take top s ++ r) (ap (λ (r : List ℕ). y ++ r) (post_is s top h) ∙ append-nil y ∙ d ∙ ap (λ (r : List ℕ). set r k w) (mid_is s top h))
-    ∙ ap₂ ◌++◌ (sym (take-set-le top s p w (omega arith))) (sym (drop-set-add top s k w) ∙ ap (λ (j : ℕ). drop top (set s j w)) (sym e))
-    ∙ take-append-drop top (set s p w)
-
--- ---- a run, by a loop
-pub run_none : (c : List ℕ) (b to : ℕ) → copy_run 0 c b to ≡ c
-unfolding copy_run
-run_none c b to = refl
-
-pub run_more : (n k : ℕ) (c : List ℕ) (b to : ℕ) → k < n → copy_run (n - k) c (b + k) (to + k) ≡ copy_run (n - (k + 1)) (set c (to + k) (get_or c (b + k) 0)) (b + (k + 1)) (to + (k + 1))
-unfolding copy_run
-run_more n k c b to h =
-    let z : n - k ≡ suc (n - (k + 1)) = omega arith in
-    let y : b + (k + 1) ≡ suc (b + k) = omega arith in
-    let x : to + (k + 1) ≡ suc (to + k) = omega arith in
-    rw (z, y, x)
-
 -- ---- the arms
-pub home_new : (work : List ℕ) (i p : ℕ) → get_or work i 0 ≡ 0 → set work i p ≡ homed work i p
-unfolding homed
-home_new work i p z = rw (eq-eqb (get_or work i 0) 0 z)
-
-pub home_old : (work : List ℕ) (i p : ℕ) → (get_or work i 0 ≡ 0 → ⊥) → work ≡ homed work i p
-unfolding homed
-home_old work i p z = rw (ne_eqb (get_or work i 0) 0 z)
-
 module _ (cells work : List ℕ) (end : ℕ) where
+  pub home_new : (i p : ℕ) → get_or work i 0 ≡ 0 → state_of cells (set work i p) end ≡ home (state_of cells work end) i p
+  unfolding homed
+  home_new i p z = rw (eq-eqb (get_or work i 0) 0 z)
+
+  pub home_old : (i p : ℕ) → (get_or work i 0 ≡ 0 → ⊥) → state_of cells work end ≡ home (state_of cells work end) i p
+  unfolding homed
+  home_old i p z = rw (ne_eqb (get_or work i 0) 0 z)
+
   pub run_new : (i b n : ℕ) (c : List ℕ) → c ≡ copy_run n cells b end → get_or work i 0 ≡ 0 → state_of c (set work i end) (end + n) ≡ run (state_of cells work end) i b n
   unfolding run
   run_new i b n c e z = rw (eq-eqb (get_or work i 0) 0 z) (ap (λ (x : List ℕ). state_of x (set work i end) (end + n)) e)
@@ -59,11 +36,13 @@ module _ (cells work : List ℕ) (end : ℕ) where
   run_old i b n z = rw (ne_eqb (get_or work i 0) 0 z)
 
   module _ (top p : ℕ) where
-    pub act_var : (v x : ℕ) (w c : List ℕ) → w ≡ homed work (home_at top v) p → x ≡ word_of_kind (Var (get_or w (home_at top v) 0)) → c ≡ set cells p x → (y : ℕ) → state_of c w end ≡ act top (state_of cells work end) p y (Var v)
-    unfolding act put
-    act_var v x w c e q d y = ap₂ (λ (a b : List ℕ). state_of a b end) (d ∙ ap (set cells p) q ∙ ap (λ (t : List ℕ). set cells p (word_of_kind (Var (get_or t (home_at top v) 0)))) e) e
-
     module _ (c w : List ℕ) (e x : ℕ) (d : List ℕ) (at : d ≡ set c p x) where
+      pub act_var : (v : ℕ) → state_of c w e ≡ home (state_of cells work end) (home_at top v) p → x ≡ word_of_kind (Var (get_or w (home_at top v) 0)) → (y : ℕ) → state_of d w e ≡ act top (state_of cells work end) p y (Var v)
+      unfolding act put
+      act_var v r k y =
+          ap (λ (l : List ℕ). state_of l w e) (at ∙ ap (set c p) k)
+          ∙ ap (λ (t : State). state_of (set t.cells p (word_of_kind (Var (get_or t.tables (home_at top v) 0)))) t.tables t.end) r
+
       pub act_str : (f : ℕ) → state_of c w e ≡ run (state_of cells work end) (structure_at top f) f (1 + arity_at cells f) → x ≡ word_of_kind (Str (get_or w (structure_at top f) 0)) → (y : ℕ) → state_of d w e ≡ act top (state_of cells work end) p y (Str f)
       unfolding act put
       act_str f r k y =
@@ -110,7 +89,7 @@ module _ (cells work : List ℕ) (top end p : ℕ) where
       ]
 
   pub act_front : (w : ℕ) (k : Kind) → Can cells work top end k → act top (state_of cells (take (table_words top) work) end) p w k ≡ taken (act top (state_of cells work end) p w k)
-  unfolding act put Can
+  unfolding act put
   act_front w (Var v) c =
       let l = c.0 in
       let i = home_at top v in
@@ -148,13 +127,39 @@ module _ (cells work : List ℕ) (top end p : ℕ) where
       ]
 
   pub act_behind : (w : ℕ) (k : Kind) → Can cells work top end k → drop (table_words top) (act top (state_of cells work end) p w k).tables ≡ drop (table_words top) work
-  unfolding act put Can
+  unfolding act put
   act_behind w (Var v) c = let l = c.0 in home_behind (home_at top v) (omega arith)
   act_behind w (Str f) c = run_behind f f (1 + arity_at cells f) c.index
   act_behind w (Lis m) c = run_behind (top + m) m 2 c.index
   act_behind w (Atom n a) c = refl
   act_behind w (Fixnum z) c = refl
   act_behind w Bad c = refl
+
+  -- nor how many words they have
+  run_long : (i b n : ℕ) → length (run (state_of cells work end) i b n).tables ≡ length work
+  unfolding run
+  run_long i b n =
+      elim (ℕ_discrete (get_or work i 0) 0) [
+        | yes z ↦ rw (eq-eqb (get_or work i 0) 0 z) (length-set work i end)
+        | no z ↦ rw (ne_eqb (get_or work i 0) 0 z)
+      ]
+
+  home_long : (i : ℕ) → length (homed work i p) ≡ length work
+  unfolding homed
+  home_long i =
+      elim (ℕ_discrete (get_or work i 0) 0) [
+        | yes z ↦ rw (eq-eqb (get_or work i 0) 0 z) (length-set work i p)
+        | no z ↦ rw (ne_eqb (get_or work i 0) 0 z)
+      ]
+
+  pub act_long : (w : ℕ) (k : Kind) → length (act top (state_of cells work end) p w k).tables ≡ length work
+  unfolding act put
+  act_long w (Var v) = home_long (home_at top v)
+  act_long w (Str f) = run_long f f (1 + arity_at cells f)
+  act_long w (Lis m) = run_long (top + m) m 2
+  act_long w (Atom n a) = refl
+  act_long w (Fixnum z) = refl
+  act_long w Bad = refl
 
 -- ---- the cell where a scanned cell ends
 module _ (s : List ℕ) (top w : ℕ) where
@@ -181,3 +186,16 @@ scan_turn top n p t u h q = scan_on top n p t h ∙ ap (scan top n (p + 1)) (sym
 pub scanned_is : (top p w : ℕ) (t : State) → w ≡ end_word t.cells top (get_or t.cells p 0) → act top t p w (kind_of w) ≡ scanned top t p
 unfolding scanned
 scanned_is top p w t e = rw e
+
+-- ---- a run, by a loop
+pub run_none : (c : List ℕ) (b to : ℕ) → copy_run 0 c b to ≡ c
+unfolding copy_run
+run_none c b to = refl
+
+pub run_more : (n k : ℕ) (c : List ℕ) (b to : ℕ) → k < n → copy_run (n - k) c (b + k) (to + k) ≡ copy_run (n - (k + 1)) (set c (to + k) (get_or c (b + k) 0)) (b + (k + 1)) (to + (k + 1))
+unfolding copy_run
+run_more n k c b to h =
+    let z : n - k ≡ suc (n - (k + 1)) = omega arith in
+    let y : b + (k + 1) ≡ suc (b + k) = omega arith in
+    let x : to + (k + 1) ≡ suc (to + k) = omega arith in
+    rw (z, y, x)

@@ -8,7 +8,7 @@ use Rattle.std.proofs.Math.Decide.{ℕ_discrete}
 use Rattle.std.proofs.Math.ListN.{get_or}
 use Rattle.cell.specs.declared.Kind.{Kind}
 use Rattle.cell.specs.declared.Kind.TheVariants.{Var, Str, Lis, Atom, Fixnum, Bad}
-use Rattle.cell.specs.Kinds.{kind_of, Proper}
+use Rattle.cell.specs.Kinds.{kind_of}
 use Rattle.store.specs.Store.{limit, kind_at}
 use Rattle.cycle.specs.Kids.{arity_at}
 use Rattle.cycle.specs.Room.{room_of}
@@ -18,23 +18,13 @@ use Rattle.copy.specs.Rules.{State, table_words, home_at, structure_at, pair_at,
 use Rattle.copy.specs.Inv.{Given, Run, From, End, Inv, Which, fits_in}
 use Rattle.copy.specs.Follow.{arity_agree, var_used, Good, end_good}
 use Rattle.copy.specs.Steps.{used, word_is, ran, stepped, str_there, lis_there}
-use Rattle.copy.specs.Buffer.{tables_of, hops_of, used_words}
+use Rattle.copy.specs.Buffer.{tables_of, hops_of}
 
 -- the cells, the tables and the count of cells, put together
 abbrev pub state_of : List ℕ → List ℕ → ℕ → State
 state_of cells tables end = record { cells = cells; tables = tables; end = end }
 
 -- ---- what is asked
--- the new cell p may be written, and the tables fit
-pub record Sound (cells work : List ℕ) (top end p : ℕ) : Type 0 where
-  pub above : top ≤ p
-  pub inside : p < length cells
-  pub low : top ≤ end
-  pub room : end ≤ length cells
-  pub high : end ≤ limit
-  pub small : p ≤ limit
-  pub wide : table_words top ≤ length work
-
 -- a copy of the run of n cells at b is noted at i, or there is room for it
 pub record Able (cells tables : List ℕ) (top end i b n : ℕ) : Type 0 where
   pub index : i < top + top
@@ -43,7 +33,7 @@ pub record Able (cells tables : List ℕ) (top end i b n : ℕ) : Type 0 where
   pub small : get_or tables i 0 ≤ limit
 
 -- a cell of this kind may be copied
-unfoldable pub Can : List ℕ → List ℕ → ℕ → ℕ → Kind → Type 0
+abbrev pub Can : List ℕ → List ℕ → ℕ → ℕ → Kind → Type 0
 Can cells tables top end (Var v) = (v < top) × (get_or tables (home_at top v) 0 ≤ limit)
 Can cells tables top end (Str f) = Able cells tables top end (structure_at top f) f (1 + arity_at cells f)
 Can cells tables top end (Lis l) = Able cells tables top end (pair_at top l) l 2
@@ -55,9 +45,7 @@ Can cells tables top end Bad = Unit {0}
 pub record Follows (cells work : List ℕ) (top p : ℕ) : Type 0 where
   pub chains : Chained cells top
   pub hops : Hops cells top (hops_of top work)
-  pub inside : p < length cells
   pub names : (v : ℕ) → kind_at cells p ≡ Var v → (1 ≤ v) × (v < top)
-  pub wide : used_words top ≤ length work
 
 -- the old store, and where the copy of its term stands when p is next
 pub record Ready (cells work : List ℕ) (top end p : ℕ) : Type 0 where
@@ -66,7 +54,6 @@ pub record Ready (cells work : List ℕ) (top end p : ℕ) : Type 0 where
   pub given : Given s top root
   pub inv : Inv s top root cells (tables_of top work) end p
   pub hops : Hops s top (hops_of top work)
-  pub wide : used_words top ≤ length work
 
 -- ---- tables that are the front of a longer list
 module _ (cells work : List ℕ) (top end : ℕ) where
@@ -77,7 +64,6 @@ module _ (cells work : List ℕ) (top end : ℕ) where
       record { index = a.index; old = a.old; fits = λ z. a.fits (e ∙ z); small = rw e at a.small }
 
   pub can_whole : (k : Kind) → Can cells (tables_of top work) top end k → Can cells work top end k
-  unfolding Can
   can_whole (Var v) (l, h) = (l, rw (get_or-take (table_words top) work (home_at top v) 0 (omega arith)) at h)
   can_whole (Str f) a = able_whole (structure_at top f) f (1 + arity_at cells f) a
   can_whole (Lis l) a = able_whole (pair_at top l) l 2 a
@@ -93,17 +79,6 @@ module _ (cells work : List ℕ) (top end p : ℕ) (r : Ready cells work top end
   pub end_high : end ≤ top + room_of r.s top r.root
   end_high = let c = r.inv.count in omega (arith, fits_in r.s top r.root r.given tabs r.inv.str_reached_lem r.inv.lis_reached_lem)
 
-  pub sound : p < end → Sound cells work top end p
-  sound h =
-      let I = r.inv in
-      let e = end_high in
-      let f = r.given.fits in
-      let m = r.given.lim in
-      let l = I.long in
-      let lo = I.low in
-      let w = r.wide in
-      record { above = I.above; inside = omega arith; low = omega arith; room = omega arith; high = omega arith; small = omega arith; wide = omega arith }
-
   pub follows : p < end → Follows cells work top p
   follows h =
       let I = r.inv in
@@ -116,9 +91,7 @@ module _ (cells work : List ℕ) (top end p : ℕ) (r : Ready cells work top end
       record {
         chains = same_chained r.s cells top ch I.agree (omega arith);
         hops = same_hops r.s cells top ch I.agree r.hops;
-        inside = (sound h).inside;
         names = λ v e. var_used r.s top wf c.0 v u.0 u.1 (ap kind_of (sym (I.raw p c.0 c.1 (omega arith))) ∙ e);
-        wide = r.wide;
       }
 
   module _ (h : p < end) where
@@ -144,7 +117,7 @@ module _ (cells work : List ℕ) (top end p : ℕ) (r : Ready cells work top end
     entry b g n q = let t = r.inv.run b g n q in let y = t.3 in let e = end_high in let m = r.given.lim in omega arith
 
     pub can : Can cells tabs top end (kind_of (end_word cells top (get_or cells p 0)))
-    unfolding Can Good
+    unfolding Good
     can =
         let c = r.inv.cover p r.inv.above h in
         let u = used r.given r.inv p c.0 c.1 in
@@ -165,11 +138,9 @@ module _ (cells work : List ℕ) (top end p : ℕ) (r : Ready cells work top end
         by x f Bad e g = tt
 
     -- and again after the cell, with what is remembered as it was or grown
-    pub again : (cells' work' : List ℕ) (end' : ℕ) → state_of cells' (tables_of top work') end' ≡ scanned top (state_of cells tabs end) p → Hops cells top (hops_of top work') → length work' ≡ length work → Ready cells' work' top end' (p + 1)
-    again cells' work' end' e hp l =
+    pub again : (cells' work' : List ℕ) (end' : ℕ) → state_of cells' (tables_of top work') end' ≡ scanned top (state_of cells tabs end) p → Hops cells top (hops_of top work') → Ready cells' work' top end' (p + 1)
+    again cells' work' end' e hp =
         let ch = chained r.s top r.given.wf in
-        let w = r.wide in
-        let m = r.inv.long in
         let f = follows h in
         record {
           s = r.s;
@@ -177,17 +148,4 @@ module _ (cells work : List ℕ) (top end p : ℕ) (r : Ready cells work top end
           given = r.given;
           inv = subst (λ (t : State). Inv r.s top r.root t.cells t.tables t.end (p + 1)) (sym e) (stepped r.given r.inv h);
           hops = same_hops cells r.s top f.chains (λ j g. sym (r.inv.agree j g)) hp;
-          wide = omega arith;
         }
-
-pub proper_var : (h : ℕ) → h ≤ limit → Proper (Var h)
-unfolding Proper
-proper_var h l = omega arith
-
-pub proper_str : (h : ℕ) → h ≤ limit → Proper (Str h)
-unfolding Proper
-proper_str h l = omega arith
-
-pub proper_lis : (h : ℕ) → h ≤ limit → Proper (Lis h)
-unfolding Proper
-proper_lis h l = omega arith

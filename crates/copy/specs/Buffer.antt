@@ -1,11 +1,8 @@
 -- The parts of the work buffer: a copy's tables, and behind them what is remembered of chains.
-use Rattle.std.specs.Prelude.{◌≡◌, refl, List, ◌++◌, ℕ, ◌+◌, ◌-◌, ◌<◌, ◌≤◌, length, get_or, take, drop, replicate}
-use Rattle.std.proofs.Common.{sym, ap, ◌∙◌, append-nil, arith, length-append, length-take, length-drop, get_or-take, get_or-drop, get_or-append-add, ext_get_or, length-take-le}
+use Rattle.std.specs.Prelude.{◌≡◌, refl, List, ℕ, ◌+◌, ◌-◌, ◌≤◌, length, get_or, take, drop, replicate}
+use Rattle.std.proofs.Common.{sym, ap, ◌∙◌, arith, get_or-take, get_or-drop, ext_get_or, length-take-le}
 use Rattle.std.proofs.lemmas.List.{length-replicate}
-use Rattle.std.proofs.Math.ListN.{get_or-append}
-use borrow.Rule.Slice.PartMut.{put_mid}
 use Rattle.store.specs.Zeros.{zero_at}
-use Rattle.store.specs.Part.{post_is}
 use Rattle.chains.specs.Work.{work_need, cleared}
 use Rattle.chains.specs.Cleared.{cleared_long, cleared_zero, cleared_other, cleared_same}
 use Rattle.chains.specs.Chains.{Hops}
@@ -41,29 +38,6 @@ kept_tables top old new l e = record { long = l; rest = λ j h. at j (j - table_
   where
     at : (j k : ℕ) → table_words top + k ≡ j → get_or new j 0 ≡ get_or old j 0
     at j k q = ap (λ (i : ℕ). get_or new i 0) (sym q) ∙ sym (get_or-drop (table_words top) new k 0) ∙ ap (λ (x : List ℕ). get_or x k 0) e ∙ get_or-drop (table_words top) old k 0 ∙ ap (λ (i : ℕ). get_or old i 0) q
-
--- ---- what following left in the part behind the tables, said of the whole
-module _ (top : ℕ) (work part new : List ℕ) (wide : used_words top ≤ length work) (e : new ≡ put_mid (table_words top) (length work - table_words top) work part) (l : length part ≡ length work - table_words top) where
-  is : new ≡ take (table_words top) work ++ part
-  is = e ∙ ap (λ (r : List ℕ). take (table_words top) work ++ r) (ap (λ (r : List ℕ). part ++ r) (post_is work (table_words top) (omega arith)) ∙ append-nil part)
-
-  front : length (take (table_words top) work) ≡ table_words top
-  front = length-take-le (table_words top) work (omega arith)
-
-  pub part_tables : tables_of top new ≡ tables_of top work
-  part_tables = ap (tables_of top) is ∙ ext_get_or 0 _ _ (simp (length-take, length-append) (omega (arith, front))) (λ i h. first i (omega (arith, short)))
-    where
-      short : length (take (table_words top) (take (table_words top) work ++ part)) ≤ table_words top
-      short = simp length-take (omega arith)
-
-      first : (i : ℕ) → i < table_words top → get_or (take (table_words top) (take (table_words top) work ++ part)) i 0 ≡ get_or (take (table_words top) work) i 0
-      first i h = let f = front in get_or-take (table_words top) _ i 0 h ∙ get_or-append (take (table_words top) work) part 0 i (omega arith)
-
-  pub part_hops : hops_of top new ≡ part
-  part_hops = ap (hops_of top) is ∙ ext_get_or 0 _ _ (simp (length-drop, length-append) (omega (arith, front))) (λ i h. get_or-drop (table_words top) _ i 0 ∙ ap (λ (n : ℕ). get_or (take (table_words top) work ++ part) (n + i) 0) (sym front) ∙ get_or-append-add (take (table_words top) work) part i 0)
-
-  pub part_long : length new ≡ length work
-  part_long = ap length is ∙ simp length-append (omega (arith, front))
 
 -- a buffer whose first words are cleared: empty tables, and nothing remembered
 module _ (s : List ℕ) (top : ℕ) (work : List ℕ) (l : work_need top ≤ length work) where

@@ -2,13 +2,10 @@
 use Rattle.std.specs.Prelude.{List, ℕ, length, leb}
 use Rattle.cell.specs.declared.Refusal.TheVariants.{Cells, Root, Work, Room}
 use Rattle.store.specs.Store.{term_at, well_formed}
-use Rattle.trail.specs.declared.Answer.{Answer}
-use Rattle.trail.specs.State.{Outcome, done, refused, need, ◌then◌, unless}
+use Rattle.trail.specs.State.{Outcome, done, need, ◌then◌, unless, Answer}
 use Rattle.append.specs.Calls.{room_for}
 use Rattle.cycle.specs.Room.{room_of}
 use Rattle.chains.specs.Work.{work_need, cleared}
-use Rattle.copy.specs.declared.Copied.{Copied}
-use Rattle.copy.specs.declared.Copied.TheVariants.{At, Refused}
 use Rattle.copy.specs.Rules.{copied}
 
 -- the lent words and the count of used cells
@@ -20,11 +17,6 @@ pub record Lent : Type 0 where
 -- these, put together
 abbrev pub lent : List ℕ → ℕ → List ℕ → Lent
 lent cells top work = record { cells = cells; top = top; work = work }
-
--- what the answer says
-abbrev pub said_at : Copied → Outcome
-said_at (At n) = done n
-said_at (Refused r) = refused r
 
 -- refusals 1, 3, 4 and 7
 abbrev pub flaw : Lent → ℕ → Answer

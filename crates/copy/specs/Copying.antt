@@ -1,7 +1,7 @@
 -- What copying comes to, case by case, from what the code has found and left.
-use Rattle.std.specs.Prelude.{◌≡◌, refl, Bool, true, false, List, ℕ, ◌+◌, ◌-◌, ◌<◌, ◌≤◌, length, leb}
+use Rattle.std.specs.Prelude.{◌≡◌, Bool, true, false, List, ℕ, ◌+◌, ◌<◌, ◌≤◌, length, leb, ◌-◌, refl}
 use Rattle.std.proofs.Common.{sym, ap, arith}
-use Rattle.std.proofs.Math.Bool.{and-false, and-eq-true_iff}
+use Rattle.std.proofs.Math.Bool.{and-eq-true_iff, and-false}
 use borrow.Author.Tests.{lt-leb, le-leb, leb-true, leb-false}
 use Rattle.cell.specs.declared.Refusal.TheVariants.{Cells, Root, Work, Room}
 use Rattle.store.specs.Store.{limit, term_at, well_formed}

@@ -21,4 +21,5 @@ pub mod Asks
 pub mod Followed
 pub mod Arms
 pub mod Turn
+pub mod Copier
 pub mod Copying

@@ -1,7 +1,7 @@
 -- The rules of a copy keep what specs/Meaning.antt says; and so does each call that makes one.
 use Rattle.std.proofs.Math.Path.{◌≡◌, refl, sym, ap, subst}
 use Rattle.std.proofs.Common.{◌∙◌, inl, arith, leb-true}
-use Rattle.std.specs.Prelude.{Bool, true, false, ◌&&◌, List, length, get_or, leb}
+use Rattle.std.specs.Prelude.{Bool, true, false, ◌&&◌, List, length, get_or, leb, Ok, Err}
 use Prim.Native.Nat.{ℕ, ◌+◌}
 use Rattle.cell.specs.declared.Kind.{Kind}
 use Rattle.cell.specs.declared.Kind.TheVariants.{Var, Str, Lis, Atom, Fixnum, Bad}
@@ -10,9 +10,7 @@ use Rattle.cell.specs.declared.Refusal.{Refusal}
 use Rattle.cell.specs.declared.Refusal.TheVariants.{Cells, Root, Work, Room}
 use Rattle.store.specs.Store.{limit, kind_at, term_at, well_formed}
 use Rattle.store.specs.WellFormed.{parts}
-use Rattle.trail.specs.declared.Answer.{Answer}
-use Rattle.trail.specs.declared.Answer.TheVariants.{Done, Refused}
-use Rattle.trail.specs.State.{done, refused, need, ◌then◌, unless}
+use Rattle.trail.specs.State.{done, refused, need, ◌then◌, unless, Answer}
 use Rattle.trail.specs.Facts.{trail_over, marks_over}
 use Rattle.cycle.specs.Graph.{Cyclic}
 use Rattle.cycle.specs.Room.{room_of}
@@ -109,5 +107,5 @@ module _ (h h' : Lent) (root : ℕ) where
   call_refused r = go (flaw h root)
     where
       go : (a : Answer) → unless a h (done h.top, grown h root) ≡ (refused r, h') → h' ≡ h
-      go Done e = let d : done h.top ≡ refused r = ap (λ z. z.0) e in let z : ◌≡◌ {A = ℕ} 0 1 = cc in absurd (omega arith)
-      go (Refused q) e = sym (ap (λ z. z.1) e)
+      go (Ok tt) e = let d : done h.top ≡ refused r = ap (λ z. z.0) e in let z : ◌≡◌ {A = ℕ} 0 1 = cc in absurd (omega arith)
+      go (Err q) e = sym (ap (λ z. z.1) e)

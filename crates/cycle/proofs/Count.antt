@@ -1,55 +1,54 @@
 -- Two sums that fall as a walk goes on: the cells not yet met, and what is left to do at each cell of the path.
-use mathlib.Core.Path.{◌≡◌, refl, ap}
-use mathlib.Core.List.{List, [], ◌∷◌}
-use Prim.Native.Nat.{ℕ, zero, suc, ◌+◌, ◌-◌, ◌<◌, ◌≤◌}
-use native.Mathlib.Omega.{arith}
-use native.Mathlib.Numerals.{add-one}
-use lib.ListN.{length, get_or, set}
-use lib.Seq.{get_or-set_same, get_or-set_other}
+use Rattle.std.proofs.Common.{◌≡◌, Bool, true, false, cond, ℕ, List, ◌+◌, ◌-◌, ◌<◌, ◌≤◌, length, get_or, set, take, arith, length-set, get_or-set_same}
+use Rattle.std.specs.List.{sum_by, count_by}
+use Rattle.std.proofs.lemmas.List.Sums.{sum_by-set, sum_by_more, count_by-le-length}
+use Rattle.std.proofs.lemmas.List.{take-set}
+use Rattle.cycle.specs.declared.Colour.{Colour}
+use Rattle.cycle.specs.declared.Colour.TheVariants.{White, Grey, Black}
+use Rattle.cycle.specs.declared.Rest.{Rest}
 
--- how many are 0
-unfoldable pub whites : List ℕ → ℕ
-whites [] = 0
-whites (zero ∷ l) = suc (whites l)
-whites (suc n ∷ l) = whites l
+-- not met yet
+abbrev pub white : Colour → Bool
+white White = true
+white Grey = false
+white Black = false
 
-pub whites_all : (l : List ℕ) → whites l ≤ length l
+-- how many are not met yet
+unfoldable pub whites : List Colour → ℕ
+whites col = count_by white col
+
+pub whites_all : (col : List Colour) → whites col ≤ length col
 unfolding whites
-whites_all [] = omega arith
-whites_all (zero ∷ l) = omega (arith, whites_all l)
-whites_all (suc n ∷ l) = omega (arith, whites_all l)
+whites_all col = count_by-le-length white col
 
-pub whites_le : (l : List ℕ) (i v : ℕ) → whites (set l i (suc v)) ≤ whites l
+whites_set : (col : List Colour) (c : ℕ) (k : Colour) → c < length col → whites (set col c k) + cond (white (get_or col c White)) 1 0 ≡ whites col + cond (white k) 1 0
 unfolding whites
-whites_le [] i v = omega arith
-whites_le (zero ∷ l) zero v = omega arith
-whites_le (suc n ∷ l) zero v = omega arith
-whites_le (zero ∷ l) (suc i) v = omega (arith, whites_le l i v)
-whites_le (suc n ∷ l) (suc i) v = whites_le l i v
+whites_set col c k h = sum_by-set (λ x. cond (white x) 1 0) col c k White h
 
-pub whites_lt : (l : List ℕ) (i v : ℕ) → i < length l → get_or l i 0 ≡ 0 → suc (whites (set l i (suc v))) ≡ whites l
-unfolding whites
-whites_lt [] i v h e = absurd (omega arith)
-whites_lt (zero ∷ l) zero v h e = refl
-whites_lt (suc n ∷ l) zero v h e = absurd (omega arith)
-whites_lt (zero ∷ l) (suc i) v h e = ap suc (whites_lt l i v (omega arith) e)
-whites_lt (suc n ∷ l) (suc i) v h e = whites_lt l i v (omega arith) e
+-- one fewer, where a cell is met
+pub whites_lt : (col : List Colour) (c : ℕ) → c < length col → get_or col c White ≡ White → whites (set col c Grey) + 1 ≡ whites col
+whites_lt col c h e = let w : whites (set col c Grey) + 1 ≡ whites col + 0 = rw e at (whites_set col c Grey h) in omega arith
 
--- one for each of the first n ranges, and what is left of it
-unfoldable pub frames : List ℕ → List ℕ → ℕ → ℕ
-frames nexts ends zero = 0
-frames nexts ends (suc n) = frames nexts ends n + (get_or ends n 0 - get_or nexts n 0 + 1)
+-- no more, where one is finished
+pub whites_le : (col : List Colour) (c : ℕ) → c < length col → whites (set col c Black) ≤ whites col
+whites_le col c h = omega (arith, whites_set col c Black h)
 
-module _ (nexts ends : List ℕ) where
-  pub frames_one : (n : ℕ) → frames nexts ends (n + 1) ≡ frames nexts ends n + (get_or ends n 0 - get_or nexts n 0 + 1)
-  unfolding frames
-  frames_one n = rw (add-one n)
+-- no links
+abbrev pub none : Rest
+none = record { next = 0; end = 0 }
 
-  module _ (i u v : ℕ) where
-    frames_set : (n : ℕ) → n ≤ i → frames (set nexts i u) (set ends i v) n ≡ frames nexts ends n
-    unfolding frames
-    frames_set zero h = refl
-    frames_set (suc n) h = rw (frames_set n (omega arith), get_or-set_other nexts i n u 0 (λ z. omega arith), get_or-set_other ends i n v 0 (λ z. omega arith))
+-- one for a cell, and one for each link that is left
+abbrev pub frame : Rest → ℕ
+frame e = e.end - e.next + 1
 
-pub frames_last : (nexts ends : List ℕ) (n u v : ℕ) → n < length nexts → n < length ends → frames (set nexts n u) (set ends n v) (n + 1) ≡ frames nexts ends n + (v - u + 1)
-frames_last nexts ends n u v h l = rw (frames_one (set nexts n u) (set ends n v) n, frames_set nexts ends n u v n (omega arith), get_or-set_same nexts n u 0 h, get_or-set_same ends n v 0 l)
+-- of the first n
+unfoldable pub frames : List Rest → ℕ → ℕ
+frames path n = sum_by frame (take n path)
+
+pub frames_one : (path : List Rest) (n : ℕ) → n < length path → frames path (n + 1) ≡ frames path n + frame (get_or path n none)
+unfolding frames
+frames_one path n h = sum_by_more frame path n none h
+
+pub frames_last : (path : List Rest) (n : ℕ) (e : Rest) → n < length path → frames (set path n e) (n + 1) ≡ frames path n + frame e
+unfolding frames
+frames_last path n e h = let z = sum_by_more frame (set path n e) n none (simp length-set h) in rw (take-set path n e, get_or-set_same path n e none h) at z

@@ -1,5 +1,5 @@
 -- The bound on the room of a copy is enough: no copy needs more.
-use Rattle.std.specs.Prelude.{◌≡◌, refl, Bool, ◌&&◌, List, ℕ, ◌+◌, ◌-◌, ◌≤◌, eqb}
+use Rattle.std.specs.Prelude.{◌≡◌, refl, Bool, ◌&&◌, List, ℕ, ◌+◌, ◌≤◌, eqb}
 use Rattle.std.proofs.Common.{ap, eq-eqb, ne_eqb}
 use Rattle.std.proofs.Math.Bool.{true, false, cond, and-eq-true_iff}
 use native.Mathlib.Omega.{arith}

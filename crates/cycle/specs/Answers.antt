@@ -1,10 +1,10 @@
 -- From the tables of a walk to the answers: the verdict, the marks that a copy's room is counted by, and the links that are enough for it.
 use Rattle.std.specs.Prelude.{◌≡◌, Bool, ◌&&◌, List, ◌⊎◌, ℕ, ◌+◌, ◌<◌, ◌≤◌, eqb, get_or}
 use Rattle.std.proofs.Math.Path.{refl, ap}
-use Rattle.std.proofs.Common.{sym, subst, ◌∙◌, inl, inr, ⊎_elim, eqb-true, eq-eqb, ne_eqb}
+use Rattle.std.proofs.Common.{sym, subst, ◌∙◌, inl, inr, ⊎_elim, eq-eqb, ne_eqb}
 use Rattle.std.proofs.Math.Bool.{true, false, cond}
 use native.Mathlib.Omega.{arith}
-use Rattle.std.proofs.lemmas.Bool.{eqb-false}
+use Rattle.std.proofs.lemmas.Bool.{false≢true}
 use Rattle.cell.specs.declared.Kind.TheVariants.{Str, Atom}
 use Rattle.cell.specs.Kinds.{by_tag, kind_of}
 use Rattle.store.specs.Store.{kind_at, term_at, WellFormed}
@@ -18,10 +18,11 @@ use Rattle.cycle.specs.Cyclic.{false_acc, acc_false}
 use Rattle.cycle.specs.Room.{reaches, str_reached, lis_reached, run_room, room_by, room_of, room_same, marked}
 use Rattle.cycle.specs.Reached.{found, finds, reach_used, true_str}
 use Rattle.cycle.specs.Bound.{if_named, named, room_le}
-use Rattle.cycle.specs.Met.{if_met, met_links, met_none, met_cover}
-use Rattle.cycle.specs.Tables.{Done, NoneMet, Names, Walked, none_done}
+use Rattle.cycle.specs.Met.{is_met, met_other, if_met, met_links, met_none, met_cover}
+use Rattle.cycle.specs.declared.Colour.{Colour}
+use Rattle.cycle.specs.Tables.{colour, Done, NoneMet, Names, Walked, none_done}
 
-module _ {s : List ℕ} {top root : ℕ} {col₀ col nexts ends : List ℕ} {met : Bool} (wf : WellFormed s top) (t : term_at s top root ≡ true) (w : Walked s top root col₀ col nexts ends met) where
+module _ {s : List ℕ} {top root : ℕ} {col₀ col : List Colour} {met : Bool} (wf : WellFormed s top) (t : term_at s top root ≡ true) (w : Walked s root col₀ col met) where
   -- after tables whose finished cells reach no cycle, a walk answers whether the root does
   pub walked_verdict : ((c : ℕ) → Done col₀ c → Accessible (Link s) c) → met ≡ cyclic_at s top root
   walked_verdict before = let u = term_used s top root t in go met refl (cyclic_at s top root) refl u.0 u.1
@@ -37,7 +38,7 @@ module _ {s : List ℕ} {top root : ℕ} {col₀ col nexts ends : List ℕ} {met
     done_reached c d = ⊎_elim (λ e. absurd (none_done col₀ none c e)) (λ r. r) (w.only c d)
 
     -- what finished cells name, other than Atoms, is what the cells that the root reaches name
-    names_found : (g : ℕ → ℕ) → ((x n a : ℕ) → kind_at s x ≡ Atom n a → g x ≡ 0) → (table : List ℕ) → Names g top col table → (f : ℕ) → 1 ≤ f → marked table f ≡ some_below top (λ x. reaches s top root x && eqb (g x) f)
+    names_found : (g : ℕ → ℕ) → ((x n a : ℕ) → kind_at s x ≡ Atom n a → g x ≡ 0) → (table : List Bool) → Names g top col table → (f : ℕ) → 1 ≤ f → marked table f ≡ some_below top (λ x. reaches s top root x && eqb (g x) f)
     names_found g none table n f pos = let u = term_used s top root t in go u.0 u.1 (marked table f) refl (some_below top (λ x. reaches s top root x && eqb (g x) f)) refl
       where
         by_edges : (x : ℕ) → 1 ≤ root → root < top → g x ≡ f → Reach s root x ⊎ ((y : ℕ) × Reach s root y × (kind_at s y ≡ Str x)) → Reach s root x
@@ -50,16 +51,16 @@ module _ {s : List ℕ} {top root : ℕ} {col₀ col nexts ends : List ℕ} {met
 
         go : 1 ≤ root → root < top → (a : Bool) → marked table f ≡ a → (b : Bool) → some_below top (λ x. reaches s top root x && eqb (g x) f) ≡ b → a ≡ b
         go l h true p b q =
-            let m = n.only f (eqb-true (get_or table f 0) 1 p) in
+            let m = n.only f p in
             sym (finds s top wf root l h g f m.0 (by_edges m.0 l h m.2 (links_reach s top wf t (done_reached m.0 m.1))) m.2) ∙ q
         go l h false p true q =
             let x = found s top wf root l h g f q in
             let u = reach_used s top wf l h x.1 in
-            absurd (eqb-false (get_or table f 0) 1 p (subst (λ (y : ℕ). get_or table y 0 ≡ 1) x.2 (n.all x.0 u.0 u.1 (w.reached x.0 (reach_links s x.1)) (let e = x.2 in omega arith))))
+            absurd (false≢true (sym p ∙ subst (λ (y : ℕ). get_or table y false ≡ true) x.2 (n.all x.0 u.0 u.1 (w.reached x.0 (reach_links s x.1)) (let e = x.2 in omega arith))))
         go l h false p false q = refl
 
     -- so the room counted by their marks is the room of a copy
-    pub walked_room : (heads pairs : List ℕ) (r : ℕ) → Names (head s) top col heads → Names (pair s) top col pairs → r ≡ room_by s top (marked heads) (marked pairs) → r ≡ room_of s top root
+    pub walked_room : (heads pairs : List Bool) (r : ℕ) → Names (head s) top col heads → Names (pair s) top col pairs → r ≡ room_by s top (marked heads) (marked pairs) → r ≡ room_of s top root
     unfolding room_of str_reached lis_reached head head_kind pair pair_kind
     walked_room heads pairs r n m e =
         e ∙ room_same s top (marked heads) (marked pairs) (str_reached s top root) (lis_reached s top root)
@@ -67,8 +68,11 @@ module _ {s : List ℕ} {top root : ℕ} {col₀ col nexts ends : List ℕ} {met
         (names_found (pair s) (λ x n a q. ap pair_kind q) pairs m)
 
     -- ---- the links gone over are enough
-    coloured : (x : ℕ) → Reach s root x → eqb (get_or col x 0) 0 ≡ false
-    coloured x r = let d = w.reached x (reach_links s r) in ne_eqb (get_or col x 0) 0 (λ z. omega arith)
+    done_met : (x : ℕ) → Done col x → is_met (colour col x) ≡ true
+    done_met x d = met_other (colour col x) (λ z. let e = sym z ∙ d in cc)
+
+    coloured : (x : ℕ) → Reach s root x → is_met (colour col x) ≡ true
+    coloured x r = done_met x (w.reached x (reach_links s r))
 
     -- a cell that is reached, and that names f by g, is met
     still_named : (g : ℕ → ℕ) (f : ℕ) → some_below top (λ x. reaches s top root x && eqb (g x) f) ≡ true → named (λ x. if_met col x (g x)) top f ≡ true
@@ -78,12 +82,11 @@ module _ {s : List ℕ} {top root : ℕ} {col₀ col nexts ends : List ℕ} {met
         some_true (λ x. eqb (if_met col x (g x)) f) top x.0 (reach_used s top wf u.0 u.1 x.1).1 (rw (coloured x.0 x.1) (eq-eqb (g x.0) f x.2))
 
     -- and so is the functor cell of a Str that is reached
-    head_met : (f : ℕ) → 1 ≤ f → str_reached s top root f ≡ true → eqb (get_or col f 0) 0 ≡ false
+    head_met : (f : ℕ) → 1 ≤ f → str_reached s top root f ≡ true → is_met (colour col f) ≡ true
     head_met f l e =
         let u = term_used s top root t in
         let x = true_str s top wf root u.0 u.1 f l e in
-        let d = w.tables.closed x.0 f (w.reached x.0 (reach_links s x.1)) (link_str s x.0 f x.2) in
-        ne_eqb (get_or col f 0) 0 (λ z. omega arith)
+        done_met f (w.tables.closed x.0 f (w.reached x.0 (reach_links s x.1)) (link_str s x.0 f x.2))
 
     need : (f : ℕ) → 1 ≤ f → run_room (str_reached s top root f) (lis_reached s top root f) (arity_at s f) ≤ if_met col f (arity_at s f) + (cond (named (λ x. if_met col x (head s x)) top f) (if_named 1 f) 0 + cond (named (λ x. if_met col x (pair s x)) top f) (if_named 2 f) 0)
     unfolding run_room str_reached lis_reached
@@ -104,11 +107,11 @@ module _ {s : List ℕ} {top root : ℕ} {col₀ col nexts ends : List ℕ} {met
         let z = met_none s top col₀ none in
         let r = room_le s top wf (str_reached s top root) (lis_reached s top root) (λ f. if_met col f (arity_at s f)) (if_named 1) (if_named 2) (λ x. if_met col x (head s x)) (λ x. if_met col x (pair s x)) (λ c. if_met col c (links s c))
         need
-        (nothing 1 (eqb (get_or col 0 0) 0) (ap (λ (v : ℕ). head_kind (kind_of v)) wf.zeroth))
-        (nothing 2 (eqb (get_or col 0 0) 0) (ap (λ (v : ℕ). pair_kind (kind_of v)) wf.zeroth))
+        (nothing 1 (is_met (colour col 0)) (ap (λ (v : ℕ). head_kind (kind_of v)) wf.zeroth))
+        (nothing 2 (is_met (colour col 0)) (ap (λ (v : ℕ). pair_kind (kind_of v)) wf.zeroth))
         (met_cover s col) in
         omega arith
       where
-        nothing : (m : ℕ) (b : Bool) {x : ℕ} → x ≡ 0 → if_named m (cond b 0 x) ≡ 0
-        nothing m true e = refl
-        nothing m false e = rw e
+        nothing : (m : ℕ) (b : Bool) {x : ℕ} → x ≡ 0 → if_named m (cond b x 0) ≡ 0
+        nothing m true e = rw e
+        nothing m false e = refl

@@ -1,5 +1,5 @@
 -- The computed verdict means what it says: `cyclic_at` is true exactly of a root that reaches a cycle, and false exactly of one from which every path ends.
-use Rattle.std.specs.Prelude.{◌≡◌, Bool, true, false, List}
+use Rattle.std.specs.Prelude.{◌≡◌, Bool, true, false, List, Ok}
 use Rattle.std.proofs.Math.Path.{refl}
 use Rattle.std.proofs.Common.{sym, ap, ◌∙◌, arith}
 use Rattle.std.proofs.lemmas.Bool.{false≢true}
@@ -7,12 +7,11 @@ use Prim.Native.Nat.{ℕ, zero, suc, ◌<◌, ◌≤◌}
 use Rattle.store.specs.Store.{term_at, WellFormed}
 use Rattle.store.specs.Steps.{term_used}
 use Rattle.store.specs.WellFormed.{whole}
-use Rattle.cycle.specs.declared.Verdict.TheVariants.{Yes, No}
 use Rattle.cycle.specs.Graph.{Cyclic, Acc, cyclic_next, no_cycle}
 use Rattle.cycle.specs.Some.{some_true, some_holds, none_holds}
 use Rattle.cycle.specs.Kids.{deg, kid, kid_edge, edge_kid, acc_all}
 use Rattle.cycle.specs.Ways.{Way, stay, go, way_cyclic}
-use Rattle.cycle.specs.Verdict.{paths, cyclic_at, verdict_of, answered_yes, answered_no}
+use Rattle.cycle.specs.Verdict.{paths, cyclic_at, verdict_of, answered}
 
 module _ (s : List ℕ) where
   -- from a cycle there is a path of any length
@@ -69,8 +68,8 @@ module _ (s : List ℕ) where
 
   -- ---- the verdict of a well-formed store and a root that stands for a term: yes exactly where the root reaches a cycle
   module _ (top : ℕ) (wf : WellFormed s top) (root : ℕ) (t : term_at s top root ≡ true) where
-    pub verdict_yes : Cyclic s root → Yes ≡ verdict_of s top root
-    verdict_yes c = let u = term_used s top root t in answered_yes s top root (whole s top wf) t (cyclic_true top wf root u.0 u.1 c)
+    pub verdict_yes : Cyclic s root → Ok true ≡ verdict_of s top root
+    verdict_yes c = let u = term_used s top root t in answered s top root (whole s top wf) t true (sym (cyclic_true top wf root u.0 u.1 c))
 
-    pub verdict_no : (Cyclic s root → ⊥) → No ≡ verdict_of s top root
-    verdict_no n = let u = term_used s top root t in answered_no s top root (whole s top wf) t (acc_false top wf root u.0 u.1 (acyclic_acc top wf root u.0 u.1 n))
+    pub verdict_no : (Cyclic s root → ⊥) → Ok false ≡ verdict_of s top root
+    verdict_no n = let u = term_used s top root t in answered s top root (whole s top wf) t false (sym (acc_false top wf root u.0 u.1 (acyclic_acc top wf root u.0 u.1 n)))

@@ -37,8 +37,8 @@ unfoldable pub room_of : List ℕ → ℕ → ℕ → ℕ
 room_of s top root = room_by s top (str_reached s top root) (lis_reached s top root)
 
 -- the test of a mark in a table
-abbrev pub marked : List ℕ → ℕ → Bool
-marked table f = eqb (get_or table f 0) 1
+abbrev pub marked : List Bool → ℕ → Bool
+marked table f = get_or table f false
 
 -- ---- tests that agree count the same
 pub room_same : (s : List ℕ) (top : ℕ) (str lis str' lis' : ℕ → Bool) → ((f : ℕ) → 1 ≤ f → str f ≡ str' f) → ((f : ℕ) → 1 ≤ f → lis f ≡ lis' f) → room_by s top str lis ≡ room_by s top str' lis'

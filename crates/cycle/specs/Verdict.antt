@@ -1,9 +1,8 @@
 -- What the cycle verdict answers, as a computation on the words: a root is cyclic exactly if some path from it has as many edges as there are used cells. specs/Cyclic.antt proves that this is the definition of cyclic.
-use Rattle.std.specs.Prelude.{◌≡◌, Bool, true, false, cond, List, ℕ, zero, suc}
+use Rattle.cell.specs.declared.Refusal.{Refusal}
+use Rattle.std.specs.Prelude.{◌≡◌, Bool, true, false, cond, List, ℕ, zero, suc, Result, Ok, Err}
 use Rattle.cell.specs.declared.Refusal.TheVariants.{Cells, Root}
 use Rattle.store.specs.Store.{well_formed, term_at}
-use Rattle.cycle.specs.declared.Verdict.{Verdict}
-use Rattle.cycle.specs.declared.Verdict.TheVariants.{Yes, No, Refused}
 use Rattle.cycle.specs.Some.{some_below}
 use Rattle.cycle.specs.Kids.{deg, kid}
 
@@ -17,26 +16,22 @@ unfoldable pub cyclic_at : List ℕ → ℕ → ℕ → Bool
 cyclic_at s top i = paths s top i
 
 -- refusal 1 where the cells are not well formed, refusal 3 where the root stands for no term; else whether it reaches a cycle
-unfoldable pub verdict_of : List ℕ → ℕ → ℕ → Verdict
+unfoldable pub verdict_of : List ℕ → ℕ → ℕ → Result Bool Refusal
 verdict_of s top root =
-    cond (well_formed s top) (cond (term_at s top root) (cond (cyclic_at s top root) Yes No) (Refused Root)) (Refused Cells)
+    cond (well_formed s top) (cond (term_at s top root) (Ok (cyclic_at s top root)) (Err Root)) (Err Cells)
 
 -- ---- the answer, by the tests that a call makes
 module _ (s : List ℕ) (top root : ℕ) where
-  pub refused_cells : well_formed s top ≡ false → Refused Cells ≡ verdict_of s top root
+  pub refused_cells : well_formed s top ≡ false → Err Cells ≡ verdict_of s top root
   unfolding verdict_of
   refused_cells h = rw h
 
   module _ (h : well_formed s top ≡ true) where
-    pub refused_root : term_at s top root ≡ false → Refused Root ≡ verdict_of s top root
+    pub refused_root : term_at s top root ≡ false → Err Root ≡ verdict_of s top root
     unfolding verdict_of
     refused_root t = rw (h, t)
 
     module _ (t : term_at s top root ≡ true) where
-      pub answered_yes : cyclic_at s top root ≡ true → Yes ≡ verdict_of s top root
+      pub answered : (b : Bool) → b ≡ cyclic_at s top root → Ok b ≡ verdict_of s top root
       unfolding verdict_of
-      answered_yes c = rw (h, t, c)
-
-      pub answered_no : cyclic_at s top root ≡ false → No ≡ verdict_of s top root
-      unfolding verdict_of
-      answered_no c = rw (h, t, c)
+      answered b c = rw (h, t, c)

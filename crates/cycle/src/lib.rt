@@ -3,27 +3,21 @@
 // bound on that room that takes no walk.
 #![tactic(auto)]
 
-ghost use Rattle.std.specs.Prelude.{◌≡◌, true, ◌||◌, ◌+◌, ◌-◌, ◌<◌, ◌≤◌, leb, length, get_or, replicate};
-ghost use Rattle.store.specs.Store.{limit, term_at, WellFormed};
-ghost use Rattle.cycle.specs.Kids.{arity_at, head, pair};
+ghost use Rattle.std.specs.Prelude.{◌≡◌, true, false, cond, ◌||◌, ◌+◌, ◌-◌, ◌<◌, ◌≤◌, leb, length, get_or, replicate};
+ghost use Rattle.store.specs.Store.{limit, term_at};
+ghost use Rattle.cycle.specs.Kids.{arity_at};
 ghost use Rattle.cycle.specs.Links.{Span};
 ghost use Rattle.cycle.specs.Verdict.{cyclic_at, verdict_of};
-ghost use Rattle.cycle.specs.Room.{room_by, room_of, marked};
+ghost use Rattle.cycle.specs.Room.{room_of};
 ghost use Rattle.cycle.specs.Most.{own_room, most_room};
-ghost use Rattle.cycle.specs.Counted.{Counted};
-ghost use Rattle.cycle.specs.Tables.{NoneMet, Names, Tables, Walked};
+ghost use Rattle.cycle.specs.Counted.{Counted, RunsCounted};
+ghost use Rattle.cycle.specs.Tables.{colour, Tables, Walked};
 ghost use Rattle.cycle.specs.Met.{met_links};
 
 use cell::{Kind, Refusal};
-use store::{LIMIT, SMALL};
-
-// What the cycle verdict answers.
-#[derive(Clone, Copy)]
-pub enum Verdict {
-    Yes,
-    No,
-    Refused(Refusal),
-}
+use std::mem;
+use std::ops::Range;
+use store::{LIMIT, SMALL, Store};
 
 // How many cells stand behind a functor cell; none behind any other.
 pub fn arity_at(cells: &[u64], f: usize) -> usize
@@ -36,221 +30,201 @@ pub fn arity_at(cells: &[u64], f: usize) -> usize
     }
 }
 
-// The cells that a cell leads to, always neighbours: from `next` on, up to `end`.
-#[derive(Clone, Copy)]
-struct Links {
-    next: usize,
-    end: usize,
-}
-
-// Where the links of a cell go. A Str leads to its functor cell, and this to each argument, so that
-// a wide header is walked once however many Str cells name it.
-fn links_of(cells: &[u64], top: usize, i: usize) -> Links
-    requires { WellFormed cells.now top × (1 ≤ i) × (i < top) }
-    ensures { Span cells.now i 0 result.next result.end }
+// Where the links of a cell go, always to neighbours. A Str leads to its functor cell, and this to
+// each argument, so that a wide header is walked once however many Str cells name it.
+fn links_of(store: Store, i: usize) -> Range<usize>
+    requires { (1 ≤ i) × (i < store.cells.top) }
+    ensures { Span store.entry.cells.words.now i 0 result.start result.end }
 {
-    match store::kind_at(cells, i) {
-        Kind::Var(v) => {
-            if v == i {
-                Links { next: v, end: v }
-            } else {
-                Links {
-                    next: v,
-                    end: v + 1,
-                }
-            }
-        }
-        Kind::Str(f) => Links {
-            next: f,
-            end: f + 1,
-        },
-        Kind::Lis(l) => Links {
-            next: l,
-            end: l + 2,
-        },
-        Kind::Atom { name: _, arity } => Links {
-            next: i + 1,
-            end: i + 1 + arity,
-        },
-        _ => Links { next: 0, end: 0 },
+    match store::kind_at(store.cells.words, i) {
+        Kind::Var(v) => if v == i { v..v } else { v..v + 1 },
+        Kind::Str(f) => f..f + 1,
+        Kind::Lis(l) => l..l + 2,
+        Kind::Atom { name: _, arity } => i + 1..i + 1 + arity,
+        _ => 0..0,
     }
 }
 
-// What a walk saw: whether it came to a cell on its own path, and how many links it went over.
+// A cell's colour: White before a walk meets it, Grey while it is on the path, Black once it is
+// finished.
+#[derive(Clone, Copy, PartialEq, Eq)]
+enum Colour {
+    White,
+    Grey,
+    Black,
+}
+
+// The links that are left at a cell, from `next` on, up to `end`, in as few bytes as the limit allows.
+#[derive(Clone, Copy)]
+struct Rest {
+    next: u16,
+    end: u16,
+}
+
+// What a walk saw: whether it came to a cell on its own path, and how many links it went over in any case.
 #[derive(Clone, Copy)]
 struct Seen {
     cycle: bool,
     links: usize,
 }
 
-// Walks all that the root reaches; the root itself was not met before. It goes on after it came to
-// a cell on its own path, so that the finished cells are exactly those reached, and tables may be
-// used again. The path is kept as the links that are left at the cell before each of its cells, the
-// link to it just gone over; the root has none before it. A cell's colour is 0 before it is met, 1 while
-// it is on the path and 2 once it is finished.
-fn walk(
-    cells: &[u64],
-    top: usize,
-    root: usize,
-    col: &mut [u8],
-    nexts: &mut [u16],
-    ends: &mut [u16],
-) -> Seen
-    requires { WellFormed cells.now top × (1 ≤ root) × (root < top) × Tables cells.now top col.old nexts.old ends.old × (get_or col.old root 0 ≡ 0) }
-    ensures { Walked cells.now top root col.old col.new nexts.new ends.new result.cycle × (met_links cells.now top col.new ≡ met_links cells.now top col.old + result.links) }
-{
-    col[root] = 1;
-    nexts[0] = (root + 1) as u16;
-    ends[0] = (root + 1) as u16;
-    let mut sp: usize = 1;
-    let mut met = false;
-    let first = links_of(cells, top, root);
-    let mut links = first.end - first.next;
-    let mut next = first.next;
-    let mut end = first.end;
-    while 0 < sp {
-        if next < end {
-            let colour = col[next];
-            match colour {
-                0 => {
-                    col[next] = 1;
-                    let below = links_of(cells, top, next);
-                    nexts[sp] = (next + 1) as u16;
-                    ends[sp] = end as u16;
-                    sp += 1;
-                    links += below.end - below.next;
-                    next = below.next;
-                    end = below.end;
-                }
-                1 => {
-                    met = true;
-                    next += 1;
-                }
-                _ => next += 1,
-            }
-        } else {
-            sp -= 1;
-            next = nexts[sp] as usize;
-            end = ends[sp] as usize;
-            col[next - 1] = 2;
+// The tables of a walk: the colour of each cell, and for each cell of the path the links that are
+// left at the one before it, the link to it just gone over; the root has none before it.
+#[derive(Drop)]
+struct Walk<const N: usize> {
+    colours: [Colour; N],
+    path: [Rest; N],
+}
+
+impl<const N: usize> Walk<N> {
+    // Tables in which no cell is met.
+    fn new() -> Self
+        ensures { result.colours ≡ replicate N Colour.White }
+    {
+        Walk {
+            colours: [Colour::White; N],
+            path: [Rest { next: 0, end: 0 }; N],
         }
     }
-    Seen { cycle: met, links }
+
+    // Walks all that the root reaches; the root itself was not met before. It goes on after it came to
+    // a cell on its own path, so that the finished cells are exactly those reached, and the tables may be
+    // used again.
+    fn walk(&mut self, store: Store, root: usize) -> Seen
+        requires { let s = store.cells in (1 ≤ root) × (root < s.top) × (s.top ≤ N) × (N ≤ limit) × Tables s.words.now self.old.colours × (colour self.old.colours root ≡ Colour.White) }
+        ensures { let s = store.entry.cells in Walked s.words.now root self.old.colours self.new.colours result.cycle × (met_links s.words.now s.top self.new.colours ≡ met_links s.words.now s.top self.old.colours + result.links) }
+    {
+        self.colours[root] = Colour::Grey;
+        self.path[0] = Rest {
+            next: (root + 1) as u16,
+            end: (root + 1) as u16,
+        };
+        // The path is a stack in fixed memory, for there is no heap: `sp` counts its cells.
+        let mut sp = 1;
+        let mut left = links_of(store, root);
+        let mut links = left.len();
+        let mut cycle = false;
+        while 0 < sp {
+            if let Some(next) = left.next() {
+                match self.colours[next] {
+                    Colour::White => {
+                        self.colours[next] = Colour::Grey;
+                        self.path[sp] = Rest {
+                            next: left.start as u16,
+                            end: left.end as u16,
+                        };
+                        sp += 1;
+                        left = links_of(store, next);
+                        links += left.len();
+                    }
+                    Colour::Grey => cycle = true,
+                    Colour::Black => {}
+                }
+            } else {
+                sp -= 1;
+                let Rest { next, end } = self.path[sp];
+                left = next as usize..end as usize;
+                self.colours[left.start - 1] = Colour::Black;
+            }
+        }
+        Seen { cycle, links }
+    }
 }
 
-// Whether one of two roots reaches a cycle; what the first reaches is not walked again.
-fn either_walked(
-    cells: &[u64],
-    top: usize,
-    a: usize,
-    b: usize,
-    col: &mut [u8],
-    nexts: &mut [u16],
-    ends: &mut [u16],
-) -> bool
-    requires { WellFormed cells.now top × (term_at cells.now top a ≡ true) × (term_at cells.now top b ≡ true) × Tables cells.now top col.old nexts.old ends.old × NoneMet col.old }
-    ensures { result ≡ (cyclic_at cells.now top a || cyclic_at cells.now top b) }
+// The room of a run, if it has no mark yet; it gets one.
+fn room_once(mark: &mut bool, room: usize) -> usize
+    ensures { (mark.new ≡ true) × (result ≡ cond mark.old 0 room) }
 {
-    let first = walk(cells, top, a, col, nexts, ends);
-    if first.cycle {
+    if mem::replace(mark, true) { 0 } else { room }
+}
+
+// Marks on functor cells and on the first cells of pairs: the runs there are counted.
+#[derive(Drop)]
+struct Runs {
+    heads: [bool; LIMIT],
+    pairs: [bool; LIMIT],
+}
+
+impl Runs {
+    fn new() -> Self
+        ensures { (result.heads ≡ replicate limit false) × (result.pairs ≡ replicate limit false) }
+    {
+        Runs {
+            heads: [false; LIMIT],
+            pairs: [false; LIMIT],
+        }
+    }
+
+    // The room of the run that a cell names, if it has no mark yet; it gets one.
+    fn count(&mut self, store: Store, i: usize) -> usize
+        requires { (1 ≤ i) × (i < store.cells.top) }
+        ensures { let s = store.entry.cells in Counted s.words.now s.top i self.old.heads self.old.pairs self.new.heads self.new.pairs result }
+    {
+        match store::kind_at(store.cells.words, i) {
+            Kind::Str(f) => room_once(&mut self.heads[f], arity_at(store.cells.words, f) + 1),
+            Kind::Lis(l) => room_once(&mut self.pairs[l], 2),
+            _ => 0,
+        }
+    }
+}
+
+// Whether one of two roots reaches a cycle, by tables of N entries; what the first reaches is not
+// walked again.
+fn either_within<const N: usize>(store: Store, a: usize, b: usize) -> bool
+    requires { let s = store.cells in (s.top ≤ N) × (N ≤ limit) × (term_at s.words.now s.top a ≡ true) × (term_at s.words.now s.top b ≡ true) }
+    ensures { let s = store.entry.cells in result ≡ (cyclic_at s.words.now s.top a || cyclic_at s.words.now s.top b) }
+{
+    let mut tables = Walk::<N>::new();
+    if tables.walk(store, a).cycle {
         return true;
     }
-    if col[b] != 0 {
+    if tables.colours[b] != Colour::White {
         return false;
     }
-    let second = walk(cells, top, b, col, nexts, ends);
-    second.cycle
+    tables.walk(store, b).cycle
 }
 
-// Whether one of two roots reaches a cycle. A small store gets small tables, which are sooner set
-// to 0.
-pub fn either_cyclic(cells: &[u64], top: usize, a: usize, b: usize) -> bool
-    requires { WellFormed cells.now top × (term_at cells.now top a ≡ true) × (term_at cells.now top b ≡ true) }
-    ensures { result ≡ (cyclic_at cells.now top a || cyclic_at cells.now top b) }
+// Whether one of two roots reaches a cycle. A small store gets small tables, which are sooner
+// filled.
+pub fn either_cyclic(store: Store, a: usize, b: usize) -> bool
+    requires { let s = store.cells in (term_at s.words.now s.top a ≡ true) × (term_at s.words.now s.top b ≡ true) }
+    ensures { let s = store.entry.cells in result ≡ (cyclic_at s.words.now s.top a || cyclic_at s.words.now s.top b) }
 {
-    if top <= SMALL {
-        let mut col = [0u8; SMALL];
-        let mut nexts = [0u16; SMALL];
-        let mut ends = [0u16; SMALL];
-        return either_walked(cells, top, a, b, &mut col, &mut nexts, &mut ends);
+    if store.cells.top <= SMALL {
+        either_within::<SMALL>(store, a, b)
+    } else {
+        either_within::<LIMIT>(store, a, b)
     }
-    let mut col = [0u8; LIMIT];
-    let mut nexts = [0u16; LIMIT];
-    let mut ends = [0u16; LIMIT];
-    either_walked(cells, top, a, b, &mut col, &mut nexts, &mut ends)
 }
 
 // Whether the root reaches a cycle.
-pub fn cyclic(cells: &[u64], top: usize, root: usize) -> bool
-    requires { WellFormed cells.now top × (term_at cells.now top root ≡ true) }
-    ensures { result ≡ cyclic_at cells.now top root }
+pub fn cyclic(store: Store, root: usize) -> bool
+    requires { let s = store.cells in term_at s.words.now s.top root ≡ true }
+    ensures { let s = store.entry.cells in result ≡ cyclic_at s.words.now s.top root }
 {
-    either_cyclic(cells, top, root, root)
+    either_cyclic(store, root, root)
 }
 
 // The cycle verdict: whether the root reaches a cycle; refusals 1 and 3.
-pub fn cycle_verdict(cells: &[u64], top: usize, root: usize) -> Verdict
+pub fn cycle_verdict(cells: &[u64], top: usize, root: usize) -> Result<bool, Refusal>
     ensures { result ≡ verdict_of cells.now top root }
 {
-    if !store::check_cells(cells, top) {
-        return Verdict::Refused(Refusal::Cells);
+    let store = Store::new(cells, top)?;
+    if !store.cells.term_at(root) {
+        return Err(Refusal::Root);
     }
-    if !store::term_at(cells, top, root) {
-        return Verdict::Refused(Refusal::Root);
-    }
-    if cyclic(cells, top, root) {
-        Verdict::Yes
-    } else {
-        Verdict::No
-    }
+    Ok(cyclic(store, root))
 }
 
-// The room of the run that a cell names, if it has no mark yet; it gets one.
-fn count_run(
-    cells: &[u64],
-    top: usize,
-    i: usize,
-    heads: &mut [u8; LIMIT],
-    pairs: &mut [u8; LIMIT],
-) -> usize
-    requires { WellFormed cells.now top × (1 ≤ i) × (i < top) × (length heads.old ≡ limit) × (length pairs.old ≡ limit) }
-    ensures { Counted cells.now top i heads.old pairs.old heads.new pairs.new result }
+// 1, plus the room of each run that a finished cell names.
+fn count_runs(store: Store, colours: &[Colour; LIMIT]) -> usize
+    ensures { let s = store.entry.cells in RunsCounted s.words.now s.top colours.entry.now result }
 {
-    match store::kind_at(cells, i) {
-        Kind::Str(f) => {
-            let old = heads[f];
-            heads[f] = 1;
-            if old == 1 { 0 } else { arity_at(cells, f) + 1 }
-        }
-        Kind::Lis(l) => {
-            let old = pairs[l];
-            pairs[l] = 1;
-            if old == 1 { 0 } else { 2 }
-        }
-        _ => 0,
-    }
-}
-
-// 1, plus the room of each run that a finished cell names, with marks on the functor cells and on
-// the first cells of pairs that are counted.
-fn count_runs(
-    cells: &[u64],
-    top: usize,
-    col: &[u8; LIMIT],
-    heads: &mut [u8; LIMIT],
-    pairs: &mut [u8; LIMIT],
-) -> usize
-    requires { WellFormed cells.now top × (heads.old ≡ replicate limit 0) × (pairs.old ≡ replicate limit 0) }
-    ensures { Names (head cells.now) top col.now heads.new × Names (pair cells.now) top col.now pairs.new × (result ≡ room_by cells.now top (marked heads.new) (marked pairs.new)) }
-{
-    let mut sum: usize = 1;
-    let mut i: usize = 1;
-    while i < top {
-        if col[i] == 2 {
-            sum += count_run(cells, top, i, heads, pairs);
-            i += 1;
-        } else {
-            i += 1;
+    let mut runs = Runs::new();
+    let mut sum = 1;
+    for i in 1..store.cells.top {
+        if colours[i] == Colour::Black {
+            sum += runs.count(store, i);
         }
     }
     sum
@@ -259,46 +233,41 @@ fn count_runs(
 // Whether the room that a copy of the root's term needs is at most `free`: 1, plus 1 + arity for each
 // structure reached, plus 2 for each pair. It is at most 1 and the links that the walk goes over, so
 // the runs are counted only where these are too many.
-pub fn room_within(cells: &[u64], top: usize, root: usize, free: usize) -> bool
-    requires { WellFormed cells.now top × (term_at cells.now top root ≡ true) }
-    ensures { result ≡ leb (room_of cells.now top root) free }
+pub fn room_within(store: Store, root: usize, free: usize) -> bool
+    requires { let s = store.cells in term_at s.words.now s.top root ≡ true }
+    ensures { let s = store.entry.cells in result ≡ leb (room_of s.words.now s.top root) free }
 {
-    let mut col = [0u8; LIMIT];
-    let mut nexts = [0u16; LIMIT];
-    let mut ends = [0u16; LIMIT];
-    let seen = walk(cells, top, root, &mut col, &mut nexts, &mut ends);
+    let mut tables = Walk::<LIMIT>::new();
+    let seen = tables.walk(store, root);
     if seen.links < free {
         return true;
     }
-    let mut heads = [0u8; LIMIT];
-    let mut pairs = [0u8; LIMIT];
-    count_runs(cells, top, &col, &mut heads, &mut pairs) <= free
+    count_runs(store, &tables.colours) <= free
 }
 
 // The room that is counted at one cell, for the most that a copy can need: at a functor cell that of
 // its run, if there are arguments; else at each Str that names it; and at each Lis that of its pair.
-fn own_room(cells: &[u64], top: usize, i: usize) -> usize
-    requires { WellFormed cells.now top × (1 ≤ i) × (i < top) }
-    ensures { (result ≡ own_room cells.now i) × (result ≤ limit) }
+fn own_room(store: Store, i: usize) -> usize
+    requires { (1 ≤ i) × (i < store.cells.top) }
+    ensures { result ≡ own_room store.entry.cells.words.now i }
 {
-    match store::kind_at(cells, i) {
-        Kind::Str(f) => { if store::header_at(cells, f) { 0 } else { 1 } }
+    match store::kind_at(store.cells.words, i) {
+        Kind::Str(f) => if store::header_at(store.cells.words, f) {
+            0
+        } else {
+            1
+        },
         Kind::Lis(_) => 2,
-        Kind::Atom { name: _, arity } => { if arity == 0 { 0 } else { arity + 1 } }
+        Kind::Atom { name: _, arity } => if arity == 0 { 0 } else { arity + 1 },
         _ => 0,
     }
 }
 
 // The most room that a copy of any term in the store can need. It takes no walk.
-pub fn most_room(cells: &[u64], top: usize) -> usize
-    requires { WellFormed cells.now top }
-    ensures { result ≡ most_room cells.now top }
+pub fn most_room(store: Store) -> usize
+    ensures { let s = store.entry.cells in result ≡ most_room s.words.now s.top }
 {
-    let mut sum: usize = 1;
-    let mut i: usize = 1;
-    while i < top {
-        sum += own_room(cells, top, i);
-        i += 1;
-    }
-    sum
+    1 + (1..store.cells.top)
+        .map(|i| own_room(store, i))
+        .sum::<usize>()
 }

@@ -1,13 +1,10 @@
 -- What a C caller sees of a call: the number it returns, and its answer, written where the caller asked for it.
-use Rattle.std.specs.Prelude.{◌≡◌, List, ℕ}
-use Rattle.std.proofs.Common.{sym, ap, ◌∙◌}
+use Rattle.std.specs.Prelude.{◌≡◌, refl, List, ℕ, Ok, Err, MatchResult}
+use Rattle.std.specs.Prelude.{Result as Answered}
+use Rattle.std.proofs.Common.{ap, ◌∙◌}
 use Rattle.cell.specs.Answers.{refusal_number}
 use Rattle.cell.specs.declared.Refusal.{Refusal}
-use Rattle.cell.specs.declared.Made.{Made}
-use Rattle.cell.specs.declared.Made.TheVariants.{Word, Refused}
-use Rattle.cycle.specs.declared.Verdict.{Verdict}
-use Rattle.cycle.specs.declared.Verdict.TheVariants.{Yes, No, Refused as Refuses}
-use Rattle.trail.specs.State.{State, Outcome, done, failed, refused}
+use Rattle.trail.specs.State.{State, Answer, Outcome, done, failed, refused, answer_of, said, said_number}
 use Rattle.unification.specs.Calls.{Result}
 
 -- 0 for an answer, else the number of the refusal
@@ -48,48 +45,29 @@ told r before = (code_of r.0, told_of r.0 before, r.1)
 abbrev pub decided : Result → ℕ → ℕ × ℕ × State × List ℕ
 decided r before = (code_of r.0, yes_of r.0 before, r.1, r.2)
 
--- a word that was made or found, as the outcome of a call
-abbrev pub said_word : Made → Outcome
-said_word (Word w) = done w
-said_word (Refused r) = refused r
-
--- the cycle verdict as the outcome of a call
-abbrev pub said_verdict : Verdict → Outcome
-said_verdict Yes = done 0
-said_verdict No = failed
-said_verdict (Refuses r) = refused r
+-- an answer that is written where the caller asked for it, and the number returned
+abbrev pub Told : {T : Type 0} → Answered T Refusal → T → ℕ → T → Type 0
+Told answer before c now = MatchResult answer (λ x. (c ≡ 0) × (now ≡ x)) (λ r. (c ≡ refusal_number r) × (now ≡ before))
 
 -- ---- laws: from what the inner call says to what C sees
+-- an answer that tells nothing
+pub said_answer : (r : Answer) → said (answer_of r) ≡ said r
+said_answer (Ok u) = refl
+said_answer (Err e) = refl
+
+-- an answer that tells a number
+pub tells_by : (r : Answered ℕ Refusal) (before : ℕ) {c n : ℕ} → Told r before c n → (c, n) ≡ tells (said_number r) before
+tells_by (Ok x) before t = λ i. (t.0 i, t.1 i)
+tells_by (Err e) before t = λ i. (t.0 i, t.1 i)
+
+-- ---- with the lent words after the call
 module _ {A : Type 0} {o : Outcome} {s : A} {p : Outcome × A} (e : (o, s) ≡ p) where
   pub coded_by : {c : ℕ} → c ≡ code_of o → (c, s) ≡ coded p
   coded_by q = ap (λ c. (c, s)) q ∙ ap coded e
 
-  module _ (before : ℕ) where
-    pub told_done : {n : ℕ} → o ≡ done n → (0, n, s) ≡ told p before
-    told_done q = sym (ap (λ x. told (x, s) before) q) ∙ ap (λ x. told x before) e
+  pub told_by : (before : ℕ) {c n : ℕ} → (c, n) ≡ tells o before → (c, n, s) ≡ told p before
+  told_by before q = ap (λ (x : ℕ × ℕ). (x.0, x.1, s)) q ∙ ap (λ x. told x before) e
 
-    pub told_refused : {r : Refusal} {c : ℕ} → o ≡ refused r → c ≡ refusal_number r → (c, before, s) ≡ told p before
-    told_refused q k = ap (λ c. (c, before, s)) k ∙ sym (ap (λ x. told (x, s) before) q) ∙ ap (λ x. told x before) e
-
-module _ {o : Outcome} {s : State} {w : List ℕ} {p : Result} (e : ◌≡◌ {A = Result} (o, s, w) p) (before : ℕ) where
-  decided_by : {q : Outcome} → o ≡ q → decided (q, s, w) before ≡ decided p before
-  decided_by q = sym (ap (λ (x : Outcome). decided (x, s, w) before) q) ∙ ap (λ (x : Result). decided x before) e
-
-  pub decided_yes : {n : ℕ} → o ≡ done n → ◌≡◌ {A = ℕ × ℕ × State × List ℕ} (0, 1, s, w) (decided p before)
-  decided_yes q = decided_by q
-
-  pub decided_no : o ≡ failed → ◌≡◌ {A = ℕ × ℕ × State × List ℕ} (0, 0, s, w) (decided p before)
-  decided_no q = decided_by q
-
-  pub decided_refused : {r : Refusal} {c : ℕ} → o ≡ refused r → c ≡ refusal_number r → ◌≡◌ {A = ℕ × ℕ × State × List ℕ} (c, before, s, w) (decided p before)
-  decided_refused q k = ap (λ (c : ℕ). (c, before, s, w)) k ∙ decided_by q
-
-module _ {o p : Outcome} (e : o ≡ p) (before : ℕ) where
-  pub tells_done : {n : ℕ} → o ≡ done n → (0, n) ≡ tells p before
-  tells_done q = sym (ap (λ x. tells x before) q) ∙ ap (λ x. tells x before) e
-
-  pub tells_refused : {r : Refusal} {c : ℕ} → o ≡ refused r → c ≡ refusal_number r → (c, before) ≡ tells p before
-  tells_refused q k = ap (λ c. (c, before)) k ∙ sym (ap (λ x. tells x before) q) ∙ ap (λ x. tells x before) e
-
-  pub decides_refused : {r : Refusal} {c : ℕ} → o ≡ refused r → c ≡ refusal_number r → (c, before) ≡ decides p before
-  decides_refused q k = ap (λ c. (c, before)) k ∙ sym (ap (λ x. decides x before) q) ∙ ap (λ x. decides x before) e
+module _ {o : Outcome} {s : State} {w : List ℕ} {p : Result} (e : ◌≡◌ {A = Result} (o, s, w) p) where
+  pub decided_by : (before : ℕ) {c n : ℕ} → (c, n) ≡ decides o before → ◌≡◌ {A = ℕ × ℕ × State × List ℕ} (c, n, s, w) (decided p before)
+  decided_by before q = ap (λ (x : ℕ × ℕ). (x.0, x.1, s, w)) q ∙ ap (λ (x : Result). decided x before) e

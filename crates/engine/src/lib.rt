@@ -6,30 +6,45 @@
 ghost use Rattle.std.specs.Prelude.{◌≡◌};
 ghost use Rattle.cell.specs.Answers.{number_cell};
 ghost use Rattle.store.specs.Follow.{followed};
-ghost use Rattle.trail.specs.State.{state_of, said, check_of};
+ghost use Rattle.trail.specs.State.{state_of, check_of, answer_of, said, said_number, said_yes};
 ghost use Rattle.append.specs.Calls.{appending};
 ghost use Rattle.marks.specs.Calls.{marking, cutting, rolling};
 ghost use Rattle.cycle.specs.Verdict.{verdict_of};
 ghost use Rattle.unification.specs.Calls.{plainly, checkedly};
 ghost use Rattle.copy.specs.Calls.{lent, copying};
-ghost use Rattle.engine.specs.Coded.{code_of, tells, decides, coded, told, decided, said_word, said_verdict};
+ghost use Rattle.engine.specs.Coded.{code_of, Told, tells, decides, coded, told, decided};
 
-use append::Placed;
-use cell::Made;
-use copy::Copied;
-use cycle::Verdict;
-use marks::Marked;
-use trail::Answer;
-use unifier::Unified;
+use cell::Refusal;
+use trail::State;
 
-// What a call that has nothing to tell returns.
-fn code(a: Answer) -> u64
-    ensures { result ≡ code_of (said a) }
+// What a call returns: 0 where it answers, else the number of its refusal.
+fn code<T: Drop>(answer: Result<T, Refusal>) -> u64
+    ensures { result ≡ code_of (said (answer_of answer)) }
 {
-    match a {
-        Answer::Done => 0,
-        Answer::Refused(r) => cell::refusal_number(r),
+    match answer {
+        Ok(_) => 0,
+        Err(r) => u64::from(r),
     }
+}
+
+// The same of a call that has something to tell, which is written at `place`; a refusal writes nothing.
+fn tell<T: Copy + Drop>(answer: Result<T, Refusal>, place: &mut T) -> u64
+    ensures { Told answer place.old result place.new }
+{
+    match answer {
+        Ok(x) => {
+            *place = x;
+            0
+        }
+        Err(r) => u64::from(r),
+    }
+}
+
+// The same of a call that says yes, which is told as 1, or no, as 0.
+fn decide(answer: Result<bool, Refusal>, yes: &mut u64) -> u64
+    ensures { (result, yes.new) ≡ decides (said_yes answer) yes.old }
+{
+    tell(answer.map(u64::from), yes)
 }
 
 // The store check; refusals 1 and 2.
@@ -43,33 +58,29 @@ pub fn trisculap_check(
 ) -> u64
     ensures { result ≡ code_of (said (check_of (state_of cells.now top trail.now trailed marks.now marked))) }
 {
-    code(trail::check(cells, top, trail, trailed, marks, marked))
+    let lent = State {
+        cells,
+        top,
+        trail,
+        trailed,
+        marks,
+        marked,
+    };
+    code(lent.check())
 }
 
 // The cell of a number; refusal 11.
 pub fn trisculap_number(n: i64, word: &mut u64) -> u64
-    ensures { (result, word.new) ≡ tells (said_word (number_cell n)) word.old }
+    ensures { (result, word.new) ≡ tells (said_number (number_cell n)) word.old }
 {
-    match cell::number_cell(n) {
-        Made::Word(w) => {
-            *word = w;
-            0
-        }
-        Made::Refused(r) => cell::refusal_number(r),
-    }
+    tell(cell::number_cell(n), word)
 }
 
 // Follows a cell along Vars; refusals 1 and 3.
 pub fn trisculap_follow(cells: &[u64], top: usize, at: usize, word: &mut u64) -> u64
-    ensures { (result, word.new) ≡ tells (said_word (followed cells.now top at)) word.old }
+    ensures { (result, word.new) ≡ tells (said_number (followed cells.now top at)) word.old }
 {
-    match store::follow(cells, top, at) {
-        Made::Word(w) => {
-            *word = w;
-            0
-        }
-        Made::Refused(r) => cell::refusal_number(r),
-    }
+    tell(store::follow(cells, top, at), word)
 }
 
 // Appends words at `top`; refusals 1, 2, 7 and 9.
@@ -85,13 +96,10 @@ pub fn trisculap_append(
 ) -> u64
     ensures { (result, at.new, state_of cells.new top.new trail.now trailed marks.now marked) ≡ told (appending (state_of cells.old top.old trail.now trailed marks.now marked) words.now) at.old }
 {
-    match append::append(cells, top, trail, trailed, marks, marked, words) {
-        Placed::At(n) => {
-            *at = n;
-            0
-        }
-        Placed::Refused(r) => cell::refusal_number(r),
-    }
+    tell(
+        append::append(cells, top, trail, trailed, marks, marked, words),
+        at,
+    )
 }
 
 // Sets a mark; refusals 1, 2 and 7.
@@ -106,13 +114,10 @@ pub fn trisculap_mark(
 ) -> u64
     ensures { (result, number.new, state_of cells.now top trail.now trailed marks.new marked.new) ≡ told (marking (state_of cells.now top trail.now trailed marks.old marked.old)) number.old }
 {
-    match marks::mark(cells, top, trail, trailed, marks, marked) {
-        Marked::Number(n) => {
-            *number = n;
-            0
-        }
-        Marked::Refused(r) => cell::refusal_number(r),
-    }
+    tell(
+        marks::mark(cells, top, trail, trailed, marks, marked),
+        number,
+    )
 }
 
 // Rolls back to mark `k`; refusals 1, 2, 8 and 10.
@@ -160,17 +165,10 @@ pub fn trisculap_unify(
 ) -> u64
     ensures { (result, yes.new, state_of cells.new top trail.new trailed.new marks.now marked, work.new) ≡ decided (plainly (state_of cells.old top trail.old trailed.old marks.now marked) work.old a b) yes.old }
 {
-    match unifier::unify(cells, top, trail, trailed, marks, marked, work, a, b) {
-        Unified::Yes => {
-            *yes = 1;
-            0
-        }
-        Unified::No => {
-            *yes = 0;
-            0
-        }
-        Unified::Refused(r) => cell::refusal_number(r),
-    }
+    decide(
+        unifier::unify(cells, top, trail, trailed, marks, marked, work, a, b, false),
+        yes,
+    )
 }
 
 // Unifies two cells with the occurs check; refusals 1, 2, 3, 4, 5 and 6.
@@ -188,17 +186,10 @@ pub fn trisculap_unify_checked(
 ) -> u64
     ensures { (result, yes.new, state_of cells.new top trail.new trailed.new marks.now marked, work.new) ≡ decided (checkedly (state_of cells.old top trail.old trailed.old marks.now marked) work.old a b) yes.old }
 {
-    match unifier::unify_with_occurs_check(cells, top, trail, trailed, marks, marked, work, a, b) {
-        Unified::Yes => {
-            *yes = 1;
-            0
-        }
-        Unified::No => {
-            *yes = 0;
-            0
-        }
-        Unified::Refused(r) => cell::refusal_number(r),
-    }
+    decide(
+        unifier::unify(cells, top, trail, trailed, marks, marked, work, a, b, true),
+        yes,
+    )
 }
 
 // Copies a term to the cells from `top` on; refusals 1, 3, 4 and 7.
@@ -211,28 +202,12 @@ pub fn trisculap_copy(
 ) -> u64
     ensures { (result, at.new, lent cells.new top.new work.new) ≡ told (copying (lent cells.old top.old work.old) root) at.old }
 {
-    match copy::copy_term(cells, top, work, root) {
-        Copied::At(n) => {
-            *at = n;
-            0
-        }
-        Copied::Refused(r) => cell::refusal_number(r),
-    }
+    tell(copy::copy_term(cells, top, work, root), at)
 }
 
 // Whether the root reaches a cycle; refusals 1 and 3.
 pub fn trisculap_cyclic(cells: &[u64], top: usize, root: usize, yes: &mut u64) -> u64
-    ensures { (result, yes.new) ≡ decides (said_verdict (verdict_of cells.now top root)) yes.old }
+    ensures { (result, yes.new) ≡ decides (said_yes (verdict_of cells.now top root)) yes.old }
 {
-    match cycle::cycle_verdict(cells, top, root) {
-        Verdict::Yes => {
-            *yes = 1;
-            0
-        }
-        Verdict::No => {
-            *yes = 0;
-            0
-        }
-        Verdict::Refused(r) => cell::refusal_number(r),
-    }
+    decide(cycle::cycle_verdict(cells, top, root), yes)
 }

@@ -1,17 +1,18 @@
 // The public calls for C: each export is the engine's function of the same name, with the same contract.
-// `include/trisculap.h` declares them. A slice is passed as a pointer and then its length.
+// A crate is a library or an archive for C, so they stand apart. `include/trisculap.h` declares them. A slice
+// is passed as a pointer and then its length.
 #![tactic(auto)]
 
 ghost use Rattle.std.specs.Prelude.{◌≡◌};
 ghost use Rattle.cell.specs.Answers.{number_cell};
 ghost use Rattle.store.specs.Follow.{followed};
-ghost use Rattle.trail.specs.State.{state_of, said, check_of};
+ghost use Rattle.trail.specs.State.{state_of, check_of, said, said_number, said_yes};
 ghost use Rattle.append.specs.Calls.{appending};
 ghost use Rattle.marks.specs.Calls.{marking, cutting, rolling};
 ghost use Rattle.cycle.specs.Verdict.{verdict_of};
 ghost use Rattle.unification.specs.Calls.{plainly, checkedly};
 ghost use Rattle.copy.specs.Calls.{lent, copying};
-ghost use Rattle.engine.specs.Coded.{code_of, tells, decides, coded, told, decided, said_word, said_verdict};
+ghost use Rattle.engine.specs.Coded.{code_of, tells, decides, coded, told, decided};
 
 // The store check; refusals 1 and 2.
 #[unsafe(no_mangle)]
@@ -31,7 +32,7 @@ pub extern "C" fn trisculap_check(
 // The cell of a number; refusal 11.
 #[unsafe(no_mangle)]
 pub extern "C" fn trisculap_number(n: i64, word: &mut u64) -> u64
-    ensures { (result, word.new) ≡ tells (said_word (number_cell n)) word.old }
+    ensures { (result, word.new) ≡ tells (said_number (number_cell n)) word.old }
 {
     engine::trisculap_number(n, word)
 }
@@ -39,7 +40,7 @@ pub extern "C" fn trisculap_number(n: i64, word: &mut u64) -> u64
 // Follows a cell along Vars; refusals 1 and 3.
 #[unsafe(no_mangle)]
 pub extern "C" fn trisculap_follow(cells: &[u64], top: usize, at: usize, word: &mut u64) -> u64
-    ensures { (result, word.new) ≡ tells (said_word (followed cells.now top at)) word.old }
+    ensures { (result, word.new) ≡ tells (said_number (followed cells.now top at)) word.old }
 {
     engine::trisculap_follow(cells, top, at, word)
 }
@@ -164,7 +165,7 @@ pub extern "C" fn trisculap_copy(
 // Whether the root reaches a cycle; refusals 1 and 3.
 #[unsafe(no_mangle)]
 pub extern "C" fn trisculap_cyclic(cells: &[u64], top: usize, root: usize, yes: &mut u64) -> u64
-    ensures { (result, yes.new) ≡ decides (said_verdict (verdict_of cells.now top root)) yes.old }
+    ensures { (result, yes.new) ≡ decides (said_yes (verdict_of cells.now top root)) yes.old }
 {
     engine::trisculap_cyclic(cells, top, root, yes)
 }

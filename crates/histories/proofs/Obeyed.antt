@@ -1,5 +1,5 @@
 -- Unify and copy obey the law of a replay, with any work buffer: a yes and a copy only add, a no and a refusal change nothing.
-use Rattle.std.specs.Prelude.{◌≡◌, Bool, ◌&&◌, List, leb, length, replicate}
+use Rattle.std.specs.Prelude.{◌≡◌, Bool, ◌&&◌, List, leb, length, replicate, Ok, Err}
 use Rattle.std.proofs.Math.Path.{refl}
 use Rattle.std.proofs.Common.{◌∙◌, arith, leb-true}
 use Rattle.std.proofs.Math.Bool.{true, false}
@@ -7,9 +7,7 @@ use Prim.Native.Nat.{ℕ, ◌+◌, ◌≤◌}
 use Rattle.cell.specs.declared.Refusal.TheVariants.{Cells, Root, Work, Room}
 use Rattle.store.specs.Store.{limit, term_at, well_formed}
 use Rattle.store.specs.WellFormed.{parts, whole}
-use Rattle.trail.specs.declared.Answer.{Answer}
-use Rattle.trail.specs.declared.Answer.TheVariants.{Done, Refused}
-use Rattle.trail.specs.State.{State, done, need, ◌then◌, unless}
+use Rattle.trail.specs.State.{State, done, need, ◌then◌, unless, Answer}
 use Rattle.trail.specs.Facts.{Holds, holds_parts, holds_whole}
 use Rattle.cycle.specs.Room.{room_of}
 use Rattle.chains.specs.Work.{work_need, cleared}
@@ -48,13 +46,13 @@ leaves_adds s t l =
     }
 
 module _ (s : State) (w : List ℕ) where
-  by_ending : (c : Answer) (o : Ending) → ((m : Machine) → c ≡ Done → o ≡ yes m → Leaves s (left_by s m)) → Obeys s (bare (with (unless_refused c s w (answered s w o))))
+  by_ending : (c : Answer) (o : Ending) → ((m : Machine) → c ≡ Ok tt → o ≡ yes m → Leaves s (left_by s m)) → Obeys s (bare (with (unless_refused c s w (answered s w o))))
   unfolding answered Obeys
-  by_ending Done (yes m) f = leaves_adds s (left_by s m) (f m refl refl)
-  by_ending Done clashes f = refl
-  by_ending Done occurs f = refl
-  by_ending Done late f = refl
-  by_ending (Refused e) o f = refl
+  by_ending (Ok tt) (yes m) f = leaves_adds s (left_by s m) (f m refl refl)
+  by_ending (Ok tt) clashes f = refl
+  by_ending (Ok tt) occurs f = refl
+  by_ending (Ok tt) late f = refl
+  by_ending (Err e) o f = refl
 
   module _ (x y : ℕ) where
     plain_obeys : Obeys s (bare (calling (lent s w) (unify false x y)))

@@ -1,13 +1,11 @@
 -- Of the work buffer only the length counts: with other words of that length a call answers the same and leaves the same state, and it leaves a buffer of that length. So a run with a work buffer is a run of the engine that is handed zeros at each call.
-use Rattle.std.specs.Prelude.{◌≡◌, Bool, true, false, List, ℕ, ◌-◌, ◌≤◌, leb, length, replicate}
+use Rattle.std.specs.Prelude.{◌≡◌, Bool, true, false, List, ℕ, ◌-◌, ◌≤◌, leb, length, replicate, Ok, Err}
 use Rattle.std.proofs.Math.Path.{refl, sym, ap}
 use Rattle.std.proofs.Common.{◌∙◌, leb-true}
 use Rattle.std.proofs.lemmas.List.{length-replicate}
 use Rattle.cell.specs.declared.Refusal.TheVariants.{Cells, Root, Work, TrailRoom, Room}
 use Rattle.store.specs.Store.{term_at, well_formed}
-use Rattle.trail.specs.declared.Answer.{Answer}
-use Rattle.trail.specs.declared.Answer.TheVariants.{Done, Refused}
-use Rattle.trail.specs.State.{State, Outcome, done, check_of, need, ◌then◌, unless}
+use Rattle.trail.specs.State.{State, Outcome, done, check_of, need, ◌then◌, unless, Answer}
 use Rattle.append.specs.Calls.{room_for}
 use Rattle.cycle.specs.Room.{room_of}
 use Rattle.chains.specs.Work.{work_need}
@@ -38,20 +36,20 @@ module _ (s : State) (v w : List ℕ) (e : length v ≡ length w) (x y : ℕ) wh
 module _ (s : State) (v w : List ℕ) where
   same_answered : (c : Answer) (o : Ending) → bare (with (unless_refused c s v (answered s v o))) ≡ bare (with (unless_refused c s w (answered s w o)))
   unfolding answered
-  same_answered Done (yes m) = refl
-  same_answered Done clashes = refl
-  same_answered Done occurs = refl
-  same_answered Done late = refl
-  same_answered (Refused e) o = refl
+  same_answered (Ok tt) (yes m) = refl
+  same_answered (Ok tt) clashes = refl
+  same_answered (Ok tt) occurs = refl
+  same_answered (Ok tt) late = refl
+  same_answered (Err e) o = refl
 
 module _ (s : State) (w : List ℕ) where
-  long_answered : (c : Answer) (o : Ending) → (c ≡ Done → work_need s.top ≤ length w) → length (unless_refused c s w (answered s w o)).2 ≡ length w
+  long_answered : (c : Answer) (o : Ending) → (c ≡ Ok tt → work_need s.top ≤ length w) → length (unless_refused c s w (answered s w o)).2 ≡ length w
   unfolding answered
-  long_answered Done (yes m) f = cleared_long (work_need s.top) w (f refl)
-  long_answered Done clashes f = cleared_long (work_need s.top) w (f refl)
-  long_answered Done occurs f = cleared_long (work_need s.top) w (f refl)
-  long_answered Done late f = cleared_long (work_need s.top) w (f refl)
-  long_answered (Refused e) o f = refl
+  long_answered (Ok tt) (yes m) f = cleared_long (work_need s.top) w (f refl)
+  long_answered (Ok tt) clashes f = cleared_long (work_need s.top) w (f refl)
+  long_answered (Ok tt) occurs f = cleared_long (work_need s.top) w (f refl)
+  long_answered (Ok tt) late f = cleared_long (work_need s.top) w (f refl)
+  long_answered (Err e) o f = refl
 
 -- ---- copy
 module _ (s : State) (x : ℕ) where
@@ -59,8 +57,8 @@ module _ (s : State) (x : ℕ) where
   copy_of w a = let l = Copy.lent s.cells s.top w in besides s (unless a l (done s.top, Copy.grown l x))
 
   same_copy : (v w : List ℕ) (a : Answer) → bare (copy_of v a) ≡ bare (copy_of w a)
-  same_copy v w Done = refl
-  same_copy v w (Refused e) = refl
+  same_copy v w (Ok tt) = refl
+  same_copy v w (Err e) = refl
 
   abbrev flaw_by : ℕ → Answer
   flaw_by n =

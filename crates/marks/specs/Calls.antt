@@ -2,17 +2,9 @@
 use Rattle.std.specs.Prelude.{Bool, ◌&&◌, List, ℕ, ◌+◌, ◌-◌, ◌*◌, length, set, leb}
 use Rattle.cell.specs.declared.Refusal.TheVariants.{Room, Mark, Left}
 use Rattle.trail.specs.Rules.{mark_width, mark_top, mark_trail}
-use Rattle.trail.specs.State.{State, state_of, Outcome, done, refused, holds, check_of, need, ◌then◌, unless}
-use Rattle.trail.specs.declared.Answer.{Answer}
-use Rattle.marks.specs.declared.Marked.{Marked}
-use Rattle.marks.specs.declared.Marked.TheVariants.{Number, Refused}
+use Rattle.trail.specs.State.{State, state_of, Outcome, done, holds, check_of, need, ◌then◌, unless, Answer}
 use Rattle.store.specs.Zeros.{zeroed}
 use Rattle.marks.specs.Unbind.{unbind}
-
--- what the answer says
-abbrev pub said_mark : Marked → Outcome
-said_mark (Number n) = done n
-said_mark (Refused r) = refused r
 
 -- ---- mark
 -- one mark more, with the present counts

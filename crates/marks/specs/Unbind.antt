@@ -23,6 +23,7 @@ pub record Names (trail : List ℕ) (from to below : ℕ) : Type 0 where
   pub there : to ≤ length trail
   pub small : (i : ℕ) → from ≤ i → i < to → get_or trail i 0 < below
 
+-- what is below a number is below a greater
 pub names_wider : {trail : List ℕ} {from to a : ℕ} (b : ℕ) → a ≤ b → Names trail from to a → Names trail from to b
 names_wider b h n = record { order = n.order; there = n.there; small = λ i l g. (let k = n.small i l g in omega arith) }
 

@@ -6,7 +6,6 @@ use Rattle.cell.specs.Word.{var_word}
 use Rattle.trail.specs.Rules.{mark_width}
 use Rattle.trail.specs.Seen.{Named}
 use Rattle.store.specs.Zeros.{zeroed, length_zeroed, zeroed_below}
-use Rattle.marks.specs.Unbind.{unbound}
 use Rattle.trail.specs.State.{State}
 use Rattle.marks.specs.Calls.{noted, cut_off}
 use Rattle.replay.specs.Law.{Adds}

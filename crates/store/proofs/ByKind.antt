@@ -2,7 +2,7 @@
 use mathlib.Core.Path.{◌≡◌, refl, sym, ap, subst, ◌∙◌}
 use mathlib.Core.Bool.{Bool, true, false, ◌&&◌, false≢true}
 use mathlib.Core.List.{List}
-use Prim.Native.Nat.{ℕ, ◌+◌, ◌<◌, ◌≤◌}
+use Prim.Native.Nat.{ℕ, ◌+◌, ◌*◌, ◌^◌, ◌<◌, ◌≤◌}
 use lib.IntN.{ℤ}
 use lib.Dec.{leb, ltb}
 use borrow.Author.Tests.{ltb-true, le-leb, lt-ltb}
@@ -14,7 +14,8 @@ use Rattle.store.specs.declared.Standing.{Standing}
 use Rattle.store.specs.declared.Standing.TheVariants.{Breaks, Keeps, Turns, Heads}
 use Rattle.store.specs.Turns.{turns_at, no_turn}
 use Rattle.store.specs.Survey.{kept_of, Stands, StandsAt}
-use Rattle.store.specs.Store.{kind_at, is_header, no_header, term_at, atom_at, run_at, keeps, step, step_kind}
+use prog.Memory.{up}
+use Rattle.store.specs.Store.{limit, kind_at, is_header, no_header, term_at, atom_at, run_at, keeps, step, step_kind}
 
 pub stays : (i : ℕ) (k : Kind) → ((v : ℕ) → k ≡ Var v → ⊥) → i ≡ step_kind i k
 unfolding step_kind
@@ -106,3 +107,7 @@ and_none a b x p f = rw (← p, f)
 pub term_lt : (s : List ℕ) (top v : ℕ) → term_at s top v ≡ true → v < top
 unfolding term_at
 term_lt s top v h = ltb-true v top (and_right (leb 1 v) (ltb v top) (and_left (leb 1 v && ltb v top) (no_header s v) h))
+
+-- a table of so many words is not too large for a type
+pub set_fits : (n : ℕ) → n ≤ limit → up 8 (0 + n * 8) < 2 ^ 63
+set_fits n l = omega arith

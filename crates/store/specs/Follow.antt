@@ -1,30 +1,29 @@
 -- What following a cell answers, and what that means: it runs along Vars to the one cell that stays.
-use Rattle.std.specs.Prelude.{◌≡◌, refl, cond, true, false, List, get_or}
+use Rattle.cell.specs.declared.Refusal.{Refusal}
+use Rattle.std.specs.Prelude.{◌≡◌, refl, cond, true, false, List, get_or, Ok, Err, Result}
 use Rattle.std.proofs.Common.{sym}
 use Rattle.std.proofs.Math.Path.{subst}
 use Prim.Native.Nat.{ℕ, zero, suc}
 use Rattle.std.proofs.Math.Decide.{ℕ_discrete}
-use Rattle.cell.specs.declared.Made.{Made}
-use Rattle.cell.specs.declared.Made.TheVariants.{Word, Refused}
 use Rattle.cell.specs.declared.Refusal.TheVariants.{Cells, Root}
 use Rattle.store.specs.Store.{well_formed, WellFormed, term_at, step, steps, end_of}
 use Rattle.store.specs.Steps.{steps_fixed, term_used}
 use Rattle.store.specs.WellFormed.{end_stays}
 
 -- a follow answers the word where following ends; refusals 1 and 3
-unfoldable pub followed : List ℕ → ℕ → ℕ → Made
-followed s top at = cond (well_formed s top) (cond (term_at s top at) (Word (get_or s (end_of s top at) 0)) (Refused Root)) (Refused Cells)
+unfoldable pub followed : List ℕ → ℕ → ℕ → Result ℕ Refusal
+followed s top at = cond (well_formed s top) (cond (term_at s top at) (Ok (get_or s (end_of s top at) 0)) (Err Root)) (Err Cells)
 
 module _ (s : List ℕ) (top at : ℕ) where
-  pub refused_cells : well_formed s top ≡ false → Refused Cells ≡ followed s top at
+  pub refused_cells : well_formed s top ≡ false → Err Cells ≡ followed s top at
   unfolding followed
   refused_cells h = rw h
 
-  pub refused_root : well_formed s top ≡ true → term_at s top at ≡ false → Refused Root ≡ followed s top at
+  pub refused_root : well_formed s top ≡ true → term_at s top at ≡ false → Err Root ≡ followed s top at
   unfolding followed
   refused_root h p = rw (h, p)
 
-  pub found : (e : ℕ) → well_formed s top ≡ true → term_at s top at ≡ true → e ≡ end_of s top at → Word (get_or s e 0) ≡ followed s top at
+  pub found : (e : ℕ) → well_formed s top ≡ true → term_at s top at ≡ true → e ≡ end_of s top at → Ok (get_or s e 0) ≡ followed s top at
   unfolding followed
   found e h p q = rw (h, p, q)
 

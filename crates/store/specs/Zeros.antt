@@ -1,15 +1,17 @@
 -- Words that are all 0 from a place on: the test as a fact, and back; and words that are made so.
-use Rattle.std.specs.Prelude.{◌≡◌, refl, true, ◌&&◌, List, ◌++◌, ℕ, zero, suc, ◌+◌, ◌-◌, ◌<◌, ◌≤◌, set, take, eqb}
-use Rattle.std.proofs.Common.{sym, ◌∙◌, length-append, length-set, get_or-set_same, get_or-set_other, ext_get_or, eqb-true, eq-eqb, ne_eqb}
+use Rattle.std.specs.Prelude.{◌≡◌, refl, true, ◌&&◌, List, ◌++◌, ℕ, zero, suc, ◌+◌, ◌-◌, ◌<◌, ◌≤◌, take, eqb}
+use Rattle.std.proofs.Common.{sym, ◌∙◌, length-append, ext_get_or, eqb-true, eq-eqb, ne_eqb}
 use Rattle.std.proofs.Math.Path.{ap}
 use Rattle.std.proofs.Math.Bool.{and-true, and_assoc}
 use native.Mathlib.Omega.{arith}
 use Rattle.std.proofs.Math.Decide.{ℕ_discrete, dec_lt}
-use Rattle.std.proofs.Math.ListN.{length, get_or, replicate, length-take, get_or-eq_default, get_or-append}
-use Rattle.std.proofs.lemmas.List.{length-replicate}
+use Rattle.std.proofs.Math.ListN.{length, get_or, replicate, drop, length-take, length-drop, get_or-eq_default, get_or-append}
+use Rattle.std.proofs.lemmas.List.{length-replicate, get_or-drop}
 use Rattle.std.proofs.Math.Seq.{get_or-take, length-take-le, get_or-append-add}
 use Rattle.std.specs.Int.Bits.{bit_or, or_add_and}
 use Rattle.std.proofs.lemmas.Nat.{and_le_l, and_le_r}
+use Rattle.std.specs.List.{slice_range}
+use borrow.Rule.Slice.PartMut.{mid_of, put_mid}
 use Rattle.store.specs.All.{all_from, all_holds, all_true, all_done, all_split}
 use Rattle.store.specs.Store.{is_zero, zero_from}
 
@@ -44,6 +46,14 @@ module _ (l : List ℕ) (seen i : ℕ) where
   pub or_done : length l ≤ i → (eqb seen 0 && all_from i (length l - i) (is_zero l)) ≡ eqb seen 0
   or_done h = rw (all_done (is_zero l) i h) (and-true (eqb seen 0))
 
+-- the words from a place on, read as a list of their own
+module _ (l : List ℕ) (from : ℕ) (rest : List ℕ) (is : rest ≡ slice_range l from (length l)) (long : length rest + from ≡ length l) where
+  pub or_next : (seen i : ℕ) → i < length rest → (eqb seen 0 && all_from (from + i) (length l - (from + i)) (is_zero l)) ≡ (eqb (bit_or seen (get_or rest i 0)) 0 && all_from (from + (i + 1)) (length l - (from + (i + 1))) (is_zero l))
+  or_next seen i h =
+      let w : get_or l (from + i) 0 ≡ get_or rest i 0 = sym (get_or-take (length l - from) (drop from l) i 0 (omega arith) ∙ get_or-drop from l i 0) ∙ ap (λ (x : List ℕ). get_or x i 0) (sym is) in
+      let n : from + i + 1 ≡ from + (i + 1) = omega arith in
+      or_more l seen (from + i) (omega arith) ∙ rw (n, w)
+
 -- ---- words that become 0
 pub zero_at : (n j : ℕ) → get_or {A = ℕ} (replicate n 0) j 0 ≡ 0
 zero_at zero j = refl
@@ -74,27 +84,40 @@ module _ (n : ℕ) (l : List ℕ) (h : n ≤ length l) where
   pub zeroed_is : (k : List ℕ) → length k ≡ length l → ((i : ℕ) → i < n → get_or l i 0 ≡ get_or k i 0) → ((i : ℕ) → n ≤ i → get_or k i 0 ≡ 0) → zeroed n l ≡ k
   zeroed_is k e a z = ext_get_or 0 (zeroed n l) k (length_zeroed ∙ sym e) (λ i _. elim (dec_lt i n) [ yes g ↦ zeroed_below i g ∙ a i g | no g ↦ zeroed_from i (omega arith) ∙ sym (z i (omega arith)) ])
 
--- ---- the loop that zeroes from `from`, when `i` has been reached
-pub record Zeroing (old : List ℕ) (from i : ℕ) (now : List ℕ) : Type 0 where
-  pub long : length now ≡ length old
-  pub zeros : (j : ℕ) → from ≤ j → j < i → get_or now j 0 ≡ 0
-  pub first : (j : ℕ) → j < from → get_or now j 0 ≡ get_or old j 0
-  pub after : (j : ℕ) → i ≤ j → get_or now j 0 ≡ get_or old j 0
+-- ---- a part that is filled with 0, with only 0 behind it
+pub part_long : {from to : ℕ} (old : List ℕ) → from ≤ to → to ≤ length old → length (mid_of from (to - from) old) ≡ to - from
+part_long old l m = simp (length-take, length-drop) (omega arith)
 
-module _ (old : List ℕ) (from : ℕ) where
-  pub zeroing_start : Zeroing old from from old
-  zeroing_start = record { long = refl; zeros = λ j a b. absurd (omega arith); first = λ j _. refl; after = λ j _. refl }
+module _ {from to : ℕ} (old : List ℕ) (l : from ≤ to) (m : to ≤ length old) (r : (j : ℕ) → to ≤ j → get_or old j 0 ≡ 0) where
+  pub zeroed_fill : {mid : List ℕ} → mid ≡ replicate (to - from) 0 → put_mid from (to - from) old mid ≡ zeroed from old
+  zeroed_fill {mid} e = sym (zeroed_is from old (omega arith) new long (λ i g. sym (get_or-append (take from old) _ 0 i (omega (arith, f)) ∙ get_or-take from old i 0 g)) (λ i g. sym (ap (λ (k : ℕ). get_or new k 0) (back i g)) ∙ get_or-append-add (take from old) _ (i - from) 0 ∙ behind (i - from)))
+    where
+      new : List ℕ
+      new = put_mid from (to - from) old mid
 
-  module _ (i : ℕ) (now : List ℕ) (z : Zeroing old from i now) where
-    pub zeroing_more : from ≤ i → i < length now → Zeroing old from (i + 1) (set now i 0)
-    zeroing_more a b =
-        record {
-          long = length-set now i 0 ∙ z.long;
-          zeros = λ j l h. elim (ℕ_discrete j i) [ yes e ↦ ap (λ (k : ℕ). get_or (set now i 0) k 0) e ∙ get_or-set_same now i 0 0 b | no e ↦ get_or-set_other now i j 0 0 e ∙ z.zeros j l (omega arith) ];
-          first = λ j h. get_or-set_other now i j 0 0 (omega arith) ∙ z.first j h;
-          after = λ j h. get_or-set_other now i j 0 0 (omega arith) ∙ z.after j (omega arith);
-        }
+      n : length mid ≡ to - from
+      n = ap length e ∙ length-replicate (to - from) 0
 
-    pub zeroing_done : from ≤ length old → ((j : ℕ) → i ≤ j → get_or old j 0 ≡ 0) → now ≡ zeroed from old
-    zeroing_done f r =
-        sym (zeroed_is from old f now z.long (λ j h. sym (z.first j h)) (λ j h. elim (dec_lt j i) [ yes g ↦ z.zeros j h g | no g ↦ z.after j (omega arith) ∙ r j (omega arith) ]))
+      f : length (take from old) ≡ from
+      f = length-take-le from old (omega arith)
+
+      long : length new ≡ length old
+      long = simp (length-append, length-take, length-drop) (omega (arith, n))
+
+      back : (i : ℕ) → from ≤ i → length (take from old) + (i - from) ≡ i
+      back i g = omega (arith, f)
+
+      -- what is behind the first part
+      rest : List ℕ
+      rest = drop (to - from) (drop from old)
+
+      behind : (k : ℕ) → get_or (mid ++ rest) k 0 ≡ 0
+      behind k =
+          elim (dec_lt k (length mid)) [
+            | yes h ↦ get_or-append mid rest 0 k h ∙ ap (λ (x : List ℕ). get_or x k 0) e ∙ zero_at (to - from) k
+            | no h ↦ (let q : length mid + (k - length mid) ≡ k = omega arith in
+                sym (ap (λ (x : ℕ). get_or (mid ++ rest) x 0) q) ∙ get_or-append-add mid rest (k - length mid) 0 ∙ last (k - length mid))
+          ]
+        where
+          last : (j : ℕ) → get_or rest j 0 ≡ 0
+          last j = get_or-drop (to - from) (drop from old) j 0 ∙ get_or-drop from old (to - from + j) 0 ∙ r (from + (to - from + j)) (omega arith)

@@ -2,96 +2,91 @@
 // are a well-formed store.
 #![tactic(auto)]
 
-ghost use Rattle.std.specs.Prelude.{◌≡◌, ℕ, ◌+◌, ◌*◌, ◌^◌, ◌<◌, ◌≤◌, length, get_or, IfOk};
-ghost use Rattle.storecheck.specs.Little.{half_at, word_at};
+ghost use Rattle.std.specs.Prelude.{◌≡◌, ◌/◌, ◌%◌, ◌<◌, ◌≤◌, ◌≢◌, ◌↔◌, length, map, IfOk, IsErrOf};
+ghost use Rattle.std.specs.Int.{w64, from_le_bytes};
+ghost use Rattle.std.specs.Simd.{first_chunks};
 
-use std::io;
+use std::error::Error;
 use std::io::Read;
+use std::{fmt, io};
 
 const MOST_WORDS: usize = 1024;
 
-const MOST_BYTES: usize = 8192;
+const MOST_BYTES: usize = 8 * MOST_WORDS;
 
-fn wide(x: u8) -> u64
-    ensures { (result ≡ x) × (result < 256) }
-{
-    x as u64
+// A byte more than the most shows that the input is longer.
+const ROOM: usize = MOST_BYTES + 1;
+
+// Why bytes are no list of words.
+#[derive(Clone, Copy, Debug)]
+enum InputError {
+    TooLong,
+    OddLength,
 }
 
-// Four bytes from `at` on, the lowest first.
-fn half_at(bytes: &[u8], at: usize) -> u64
-    requires { at + 4 ≤ length bytes.now }
-    ensures { (result ≡ half_at bytes.now at) × (result < 2 ^ 32) }
-{
-    wide(bytes[at])
-        + wide(bytes[at + 1]) * 0x100
-        + wide(bytes[at + 2]) * 0x1_0000
-        + wide(bytes[at + 3]) * 0x100_0000
-}
-
-// Eight bytes from `at` on, the lowest first.
-fn word_at(bytes: &[u8], at: usize) -> u64
-    requires { at + 8 ≤ length bytes.now }
-    ensures { result ≡ word_at bytes.now at }
-{
-    half_at(bytes, at) + half_at(bytes, at + 4) * 0x1_0000_0000
-}
-
-// The first `top` words.
-fn words(bytes: &[u8], top: usize, cells: &mut [u64])
-    requires { (top ≤ length cells.old) × (top * 8 ≤ length bytes.now) }
-    ensures { (i : ℕ) → i < top → get_or cells.new i 0 ≡ word_at bytes.now (i * 8) }
-{
-    for i in 0..top {
-        cells[i] = word_at(bytes, i * 8);
-    }
-}
-
-// The store check of the first `top` words, with no trail and no marks.
-fn check(cells: &[u64], top: usize) -> u64
-    requires { top ≤ length cells.now }
-{
-    let used = &cells[..top];
-    let none = &cells[..0];
-    engine::trisculap_check(used, top, none, 0, none, 0)
-}
-
-// Reads until the bytes are full or the input ends; tells how many it read.
-fn read_full(input: &mut impl Read, bytes: &mut [u8]) -> io::Result<usize>
-    ensures { IfOk result (λ n. n ≤ length bytes.new) }
-{
-    let mut done = 0;
-    while done < bytes.len() {
-        let n = input.read(&mut bytes[done..])?;
-        if n == 0 {
-            break;
+impl fmt::Display for InputError {
+    fn fmt<W: fmt::Write>(&self, f: &mut fmt::Formatter<W>) -> fmt::Result {
+        match self {
+            InputError::TooLong => write!(f, "too long"),
+            InputError::OddLength => write!(f, "odd length"),
         }
-        done += n;
     }
-    Ok(done)
 }
 
-fn say(rt: &impl Print, text: &[u8]) -> io::Result<()> {
-    rt.write_all(text)
+impl Error for InputError {}
+
+// The words that the bytes are, which stand at the start of `cells`.
+fn words<'a>(bytes: &[u8], cells: &'a mut [u64; MOST_WORDS]) -> Result<&'a [u64], InputError>
+    ensures words { IfOk result (λ ws. ws.now ≡ map (from_le_bytes w64) (first_chunks 8 (length bytes.now / 8) bytes.now)) }
+    ensures too_long { IsErrOf result InputError.TooLong ↔ (MOST_BYTES < length bytes.now) }
+    ensures odd { IsErrOf result InputError.OddLength ↔ ((length bytes.now ≤ MOST_BYTES) × (length bytes.now % 8 ≢ 0)) }
+{
+    if MOST_BYTES < bytes.len() {
+        return Err(InputError::TooLong);
+    }
+    let (chunks, rest) = bytes.as_chunks::<8>();
+    if !rest.is_empty() {
+        return Err(InputError::OddLength);
+    }
+    // By index, since no contract tells what a zipped `iter_mut` has written.
+    for (i, chunk) in chunks.iter().enumerate() {
+        cells[i] = u64::from_le_bytes(*chunk);
+    }
+    Ok(&cells[..chunks.len()])
+}
+
+// The number that the store check returns for words, as C sees it, and how many they are.
+#[derive(Clone, Copy)]
+struct Verdict {
+    top: usize,
+    returned: u64,
+}
+
+impl fmt::Display for Verdict {
+    fn fmt<W: fmt::Write>(&self, f: &mut fmt::Formatter<W>) -> fmt::Result {
+        let top = self.top;
+        match self.returned {
+            0 => write!(f, "cells {top}: well formed"),
+            refusal => write!(f, "cells {top}: refused {refusal}"),
+        }
+    }
+}
+
+// The store check of the words that the bytes are, with no trail and no marks.
+fn check(bytes: &[u8]) -> Result<Verdict, InputError> {
+    let mut room = [0; MOST_WORDS];
+    let cells = words(bytes, &mut room)?;
+    let top = cells.len();
+    let returned = engine::trisculap_check(cells, top, &[], 0, &[], 0);
+    Ok(Verdict { top, returned })
 }
 
 fn main(rt: HostRuntime) -> io::Result<()> {
-    let mut bytes = [0u8; 8193];
-    let n = read_full(&mut rt.stdin(), &mut bytes)?;
-    if MOST_BYTES < n {
-        return say(&rt, b"too long\n");
-    }
-    if n % 8 != 0 {
-        return say(&rt, b"odd length\n");
-    }
-    let top = n / 8;
-    let mut cells = [0u64; MOST_WORDS];
-    words(&bytes, top, &mut cells);
-    print!(rt; "cells {top}")?;
-    let returned = check(&cells, top);
-    if returned == 0 {
-        say(&rt, b": well formed\n")
-    } else {
-        println!(rt; ": refused {returned}")
+    let mut room = [0; ROOM];
+    let n = io::copy(&mut rt.stdin().take(ROOM as u64), &mut room.as_mut_slice())?;
+    // That `n` is within the room follows from no promise of `copy`.
+    match check(&room[..ROOM.min(n as usize)]) {
+        Ok(verdict) => println!(rt; "{verdict}"),
+        Err(why) => println!(rt; "{why}"),
     }
 }

@@ -1,5 +1,5 @@
 -- The rules of the trail, the marks and the whole store as facts: what a reader takes for their definition. Each is proved to be the same as its test in specs/Rules.antt.
-use Rattle.std.specs.Prelude.{◌≡◌, Bool, true, false, ◌&&◌, cond, List, length, get_or, leb, ltb, eqb}
+use Rattle.std.specs.Prelude.{◌≡◌, Bool, true, false, ◌&&◌, cond, List, length, get_or, leb, ltb, eqb, Ok}
 use Rattle.std.proofs.Math.Path.{refl, ap}
 use Rattle.std.proofs.Common.{sym}
 use Rattle.std.proofs.Math.Bool.{not, and-eq-true_iff}
@@ -9,10 +9,9 @@ use borrow.Author.Tests.{leb-true, le-leb, ltb-true, lt-ltb, eqb-false, ne_eqb, 
 use Rattle.store.specs.All.{all_holds, all_true}
 use Rattle.store.specs.Store.{zero_from, well_formed}
 use Rattle.store.specs.Zeros.{zeros, zeros_back}
-use Rattle.trail.specs.declared.Answer.TheVariants.{Done}
 use Rattle.trail.specs.Rules.{unbound_at, names_bound, entry_new, entry_keeps, trail_used, trail_good, mark_width, mark_top, mark_trail, top_before, trail_before, rises, mark_good, marks_good}
 use Rattle.cell.specs.declared.Refusal.{Refusal}
-use Rattle.trail.specs.State.{State, Outcome, refused, cells_hold, trail_holds, holds, check_of, need, ◌then◌, unless, check_done}
+use Rattle.trail.specs.State.{State, Outcome, refused, cells_hold, trail_holds, holds, check_of, need, ◌then◌, unless, check_done, check_passed}
 
 -- ---- the trail
 pub record TrailGood (cells : List ℕ) (top : ℕ) (trail : List ℕ) (trailed : ℕ) : Type 0 where
@@ -181,13 +180,17 @@ module _ (s : State) where
       let b = (and-eq-true_iff (trail_good s.cells s.top s.trail s.trailed) (marks_good s.top s.trailed s.marks s.marked)).0 a.1 in
       record { cells_good = a.0; trail_good_lem = trail_parts _ _ _ _ b.0; marks_good_lem = marks_parts _ _ _ _ b.1 }
 
+  -- past the check every rule holds
+  pub check_parts : Ok tt ≡ check_of s → Holds s
+  check_parts h = holds_parts (check_passed s h)
+
   trail_holds_lem : Holds s → trail_holds s ≡ true
   trail_holds_lem h = rw (trail_whole _ _ _ _ h.trail_good_lem) (marks_whole _ _ _ _ h.marks_good_lem)
 
   pub holds_whole : Holds s → holds s ≡ true
   holds_whole h = rw h.cells_good (trail_holds_lem h)
 
-  pub check_holds : Holds s → check_of s ≡ Done
+  pub check_holds : Holds s → check_of s ≡ Ok tt
   check_holds h = sym (check_done s h.cells_good (trail_holds_lem h))
 
   -- of a call with one refusal more, or two: the tests that are left decide

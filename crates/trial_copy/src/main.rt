@@ -2,129 +2,120 @@
 // and with too little, and prints the answer, all cells and how much of the work buffer is 0.
 #![tactic(auto)]
 
-use std::io;
-use trial::{A, F_2, FIXNUM, G_1, LIS, NIL, STR, VAR, line, number, say};
+use std::{fmt, io};
+use trial::{A, F_2, FIXNUM, G_1, HEAP_B, LIS, Lent, NIL, Outcome, STR, Told, VAR, Words, zeros};
 
-fn copy_in(
-    rt: &impl Print,
-    name: &[u8],
-    cells: &mut [u64],
-    top: usize,
+// Cells with no trail.
+type Heap<const CELLS: usize> = Lent<CELLS, 0, 0>;
+
+// What a copy answered, the cells after it, and how many work words at the start are 0.
+#[derive(Clone, Copy)]
+struct Copied<const CELLS: usize> {
+    answer: Outcome<Told<usize>>,
+    heap: Heap<CELLS>,
+    zeros: usize,
+}
+
+impl<const CELLS: usize> fmt::Display for Copied<CELLS> {
+    fn fmt<W: fmt::Write>(&self, f: &mut fmt::Formatter<W>) -> fmt::Result {
+        let Copied {
+            answer,
+            heap,
+            zeros,
+        } = self;
+        writeln!(f, "{answer}, top {}, work words 0: {zeros}", heap.top)?;
+        write!(f, "  cells{}", Words(&heap.cells))
+    }
+}
+
+// Copies the term at the root.
+fn copy_in<const CELLS: usize>(
+    mut heap: Heap<CELLS>,
     work: &mut [u64],
     root: usize,
-) -> io::Result<()> {
-    let mut count = top;
-    say(rt, name)?;
-    let mut at: usize = 0;
-    let r = engine::trisculap_copy(cells, &mut count, work, root, &mut at);
-    trial::numbered(rt, b"at ", r, at)?;
-    say(rt, b", top ")?;
-    number(rt, count)?;
-    say(rt, b", work words 0: ")?;
-    number(rt, trial::zeros(work))?;
-    line(rt)?;
-    trial::words(rt, b"  cells", cells)
+) -> Copied<CELLS> {
+    let mut at = 0;
+    let r = engine::trisculap_copy(&mut heap.cells, &mut heap.top, work, root, &mut at);
+    Copied {
+        answer: Outcome::of(r, Told("at", at)),
+        heap,
+        zeros: zeros(work),
+    }
 }
 
 // With a work buffer of 120 words that are not 0.
-fn copy_at(
-    rt: &impl Print,
-    name: &[u8],
-    cells: &mut [u64],
-    top: usize,
-    root: usize,
-) -> io::Result<()> {
-    let mut work = [7u64; 120];
-    copy_in(rt, name, cells, top, &mut work, root)
+fn copy_at<const CELLS: usize>(heap: Heap<CELLS>, root: usize) -> Copied<CELLS> {
+    copy_in(heap, &mut [7; 120], root)
 }
 
+// The term at 1 of these cells, with 0 behind them.
+fn copy<const CELLS: usize>(cells: &[u64]) -> Copied<CELLS> {
+    copy_at(Lent::holding(cells), 1)
+}
+
+// The heaps of the bench.
 fn bench_heaps(rt: &impl Print) -> io::Result<()> {
-    let mut b = [0, STR + 2, G_1, VAR + 3, 0, 0, 0, 0];
-    copy_at(rt, b"heap B at 1: ", &mut b, 4, 1)?;
-    let mut p10 = [0, STR + 2, F_2, LIS + 5, LIS + 5, A, NIL, 0, 0, 0, 0, 0, 0];
-    copy_at(rt, b"a pair shared by two arguments: ", &mut p10, 7, 1)?;
-    let mut both = [0, LIS + 2, LIS + 4, STR + 4, A, NIL, 0, 0, 0, 0, 0, 0];
-    copy_at(
-        rt,
-        b"an atom cell that is a structure and a pair's first cell: ",
-        &mut both,
-        6,
-        1,
+    println!(rt; "heap B at 1: {}", copy::<8>(&HEAP_B))?;
+    let p10 = [0, STR + 2, F_2, LIS + 5, LIS + 5, A, NIL];
+    println!(rt; "a pair shared by two arguments: {}", copy::<13>(&p10))?;
+    let both = [0, LIS + 2, LIS + 4, STR + 4, A, NIL];
+    println!(rt;
+        "an atom cell that is a structure and a pair's first cell: {}",
+        copy::<12>(&both)
     )
 }
 
+// Unbound, shared and bound variables.
 fn variables(rt: &impl Print) -> io::Result<()> {
-    let mut pair = [
-        0,
-        STR + 2,
-        F_2,
-        LIS + 5,
-        LIS + 5,
-        VAR + 5,
-        VAR + 6,
-        0,
-        0,
-        0,
-        0,
-        0,
-        0,
-    ];
-    copy_at(rt, b"a shared pair of two unbound cells: ", &mut pair, 7, 1)?;
-    let mut twice = [0, STR + 2, F_2, VAR + 5, VAR + 5, VAR + 5, 0, 0, 0, 0, 0];
-    copy_at(rt, b"a variable named twice: ", &mut twice, 6, 1)?;
-    let mut chain = [0, VAR + 2, VAR + 3, VAR + 4, FIXNUM + 9, 0, 0];
-    copy_at(rt, b"a chain to a number: ", &mut chain, 5, 1)?;
-    let mut free = [0, VAR + 1, 0, 0];
-    copy_at(rt, b"an unbound variable: ", &mut free, 2, 1)
+    let pair = [0, STR + 2, F_2, LIS + 5, LIS + 5, VAR + 5, VAR + 6];
+    println!(rt; "a shared pair of two unbound cells: {}", copy::<13>(&pair))?;
+    let twice = [0, STR + 2, F_2, VAR + 5, VAR + 5, VAR + 5];
+    println!(rt; "a variable named twice: {}", copy::<11>(&twice))?;
+    let chain = [0, VAR + 2, VAR + 3, VAR + 4, FIXNUM + 9];
+    println!(rt; "a chain to a number: {}", copy::<7>(&chain))?;
+    println!(rt; "an unbound variable: {}", copy::<4>(&[0, VAR + 1]))
 }
 
+// Terms without an end.
 fn cyclic(rt: &impl Print) -> io::Result<()> {
-    let mut structure = [0, STR + 2, G_1, STR + 2, 0, 0, 0, 0];
-    copy_at(rt, b"g(g(g(..))): ", &mut structure, 4, 1)?;
-    let mut list = [0, LIS + 2, A, LIS + 2, 0, 0, 0, 0];
-    copy_at(rt, b"a list without an end: ", &mut list, 4, 1)?;
-    let mut through_var = [0, STR + 2, G_1, VAR + 1, 0, 0, 0, 0];
-    copy_at(rt, b"closed through a Var: ", &mut through_var, 4, 1)
-}
-
-fn overlapping(rt: &impl Print) -> io::Result<()> {
-    let mut pairs = [0, LIS + 2, LIS + 3, A, NIL, 0, 0, 0, 0, 0, 0];
-    copy_at(rt, b"pairs that overlap: ", &mut pairs, 5, 1)?;
-    let mut arguments = [0, LIS + 3, F_2, STR + 2, A, 0, 0, 0, 0, 0, 0];
-    copy_at(
-        rt,
-        b"a pair in a structure's arguments: ",
-        &mut arguments,
-        5,
-        1,
+    println!(rt; "g(g(g(..))): {}", copy::<8>(&[0, STR + 2, G_1, STR + 2]))?;
+    println!(rt;
+        "a list without an end: {}",
+        copy::<8>(&[0, LIS + 2, A, LIS + 2])
+    )?;
+    println!(rt;
+        "closed through a Var: {}",
+        copy::<8>(&[0, STR + 2, G_1, VAR + 1])
     )
 }
 
-fn rooms(rt: &impl Print) -> io::Result<()> {
-    let mut exact = [0, STR + 2, G_1, VAR + 3, 0, 0, 0];
-    copy_at(rt, b"just enough cells: ", &mut exact, 4, 1)?;
-    let mut short = [0, STR + 2, G_1, VAR + 3, 0, 0];
-    copy_at(rt, b"one cell short: ", &mut short, 4, 1)?;
-    let mut full = [0, STR + 2, G_1, VAR + 3, A, A, A, 0, 0, 0];
-    copy_at(rt, b"just enough in a store nearly full: ", &mut full, 7, 1)?;
-    let mut shared = [0, STR + 2, F_2, LIS + 5, LIS + 5, A, NIL, 0, 0, 0, 0, 0];
-    copy_at(rt, b"a shared pair, one cell short: ", &mut shared, 7, 1)?;
-    let mut cells = [0, STR + 2, G_1, VAR + 3, 0, 0, 0];
-    let mut enough = [7u64; 48];
-    copy_in(
-        rt,
-        b"just enough work words: ",
-        &mut cells,
-        4,
-        &mut enough,
-        1,
+// Pairs and structures that share cells.
+fn overlapping(rt: &impl Print) -> io::Result<()> {
+    println!(rt;
+        "pairs that overlap: {}",
+        copy::<11>(&[0, LIS + 2, LIS + 3, A, NIL])
     )?;
-    let mut again = [0, STR + 2, G_1, VAR + 3, 0, 0, 0];
-    let mut less = [7u64; 47];
-    copy_in(rt, b"one work word short: ", &mut again, 4, &mut less, 1)?;
-    copy_at(rt, b"at 0: ", &mut again, 4, 0)?;
-    copy_at(rt, b"at a header: ", &mut again, 4, 2)?;
-    copy_at(rt, b"with top 3: ", &mut again, 3, 1)
+    let arguments = [0, LIS + 3, F_2, STR + 2, A];
+    println!(rt;
+        "a pair in a structure's arguments: {}",
+        copy::<11>(&arguments)
+    )
+}
+
+// Just enough cells and work words, too few of each, and roots and stores that are refused.
+fn rooms(rt: &impl Print) -> io::Result<()> {
+    println!(rt; "just enough cells: {}", copy::<7>(&HEAP_B))?;
+    println!(rt; "one cell short: {}", copy::<6>(&HEAP_B))?;
+    let full = [0, STR + 2, G_1, VAR + 3, A, A, A];
+    println!(rt; "just enough in a store nearly full: {}", copy::<10>(&full))?;
+    let shared = [0, STR + 2, F_2, LIS + 5, LIS + 5, A, NIL];
+    println!(rt; "a shared pair, one cell short: {}", copy::<12>(&shared))?;
+    let b = Heap::<7>::holding(&HEAP_B);
+    println!(rt; "just enough work words: {}", copy_in(b, &mut [7; 48], 1))?;
+    println!(rt; "one work word short: {}", copy_in(b, &mut [7; 47], 1))?;
+    println!(rt; "at 0: {}", copy_at(b, 0))?;
+    println!(rt; "at a header: {}", copy_at(b, 2))?;
+    println!(rt; "with top 3: {}", copy_at(Heap { top: 3, ..b }, 1))
 }
 
 fn main(rt: HostRuntime) -> io::Result<()> {

@@ -1,105 +1,93 @@
 // Cells alone: the bench lines, each rule of a well-formed store, following, numbers.
 use std::io;
-use trial::{A, F_2, FIXNUM, G_1, LIS, STR, VAR, say};
+use trial::{A, F_2, FIXNUM, G_1, HEAP_B, LIS, Outcome, STR, Told, VAR, Word, check};
 
-// The store check, with no trail and no marks.
-fn cells_check(rt: &impl Print, name: &[u8], cells: &[u64], top: usize) -> io::Result<()> {
-    let none = &cells[..0];
-    say(rt, name)?;
-    trial::done(rt, engine::trisculap_check(cells, top, none, 0, none, 0))?;
-    say(rt, b"\n")
-}
-
+// The stores of the bench that are accepted and refused.
 pub fn bench_lines(rt: &impl Print) -> io::Result<()> {
-    let ring = [0, VAR + 2, VAR + 1];
-    cells_check(rt, b"Var 2, Var 1: ", &ring, 3)?;
-    let short = [0, STR + 2, F_2, A];
-    cells_check(rt, b"Str 2, f/2, a, top 4: ", &short, 4)?;
+    println!(rt; "Var 2, Var 1: {}", check(&[0, VAR + 2, VAR + 1], 3))?;
+    println!(rt; "Str 2, f/2, a, top 4: {}", check(&[0, STR + 2, F_2, A], 4))?;
     let long = [0, STR + 2, F_2, A, A];
-    cells_check(rt, b"Str 2, f/2, a, a, top 5: ", &long, 5)?;
-    cells_check(rt, b"the same, top 4: ", &long, 4)?;
-    let b = [0, STR + 2, G_1, VAR + 3];
-    cells_check(rt, b"heap B, top 4: ", &b, 4)?;
-    cells_check(rt, b"heap B, top 0: ", &b, 0)?;
-    cells_check(rt, b"heap B, top 3: ", &b, 3)?;
-    cells_check(rt, b"heap B, top 5: ", &b, 5)?;
-    cells_check(rt, b"heap B, the largest top: ", &b, 0xFFFF_FFFF_FFFF_FFFF)
+    println!(rt; "Str 2, f/2, a, a, top 5: {}", check(&long, 5))?;
+    println!(rt; "the same, top 4: {}", check(&long, 4))?;
+    println!(rt; "heap B, top 4: {}", check(&HEAP_B, 4))?;
+    println!(rt; "heap B, top 0: {}", check(&HEAP_B, 0))?;
+    println!(rt; "heap B, top 3: {}", check(&HEAP_B, 3))?;
+    println!(rt; "heap B, top 5: {}", check(&HEAP_B, 5))?;
+    println!(rt; "heap B, the largest top: {}", check(&HEAP_B, usize::MAX))
 }
 
+// The store check of all these cells.
+fn whole(cells: &[u64]) -> Outcome<&'static str> {
+    check(cells, cells.len())
+}
+
+// A store that breaks each rule, beside some that just keep it.
 pub fn cell_rules(rt: &impl Print) -> io::Result<()> {
-    let first = [VAR, A];
-    cells_check(rt, b"cell 0 not 0: ", &first, 2)?;
-    let rest = [0, A, A];
-    cells_check(rt, b"a word past top: ", &rest, 2)?;
-    let zero = [0, VAR];
-    cells_check(rt, b"Var 0: ", &zero, 2)?;
-    let header = [0, VAR + 2, G_1, A];
-    cells_check(rt, b"a Var that names a header: ", &header, 4)?;
-    let no_atom = [0, STR + 2, A, STR + 1];
-    cells_check(
-        rt,
-        b"Str that names an Atom of arity 0, Str that names a Str: ",
-        &no_atom,
-        4,
+    println!(rt; "cell 0 not 0: {}", whole(&[VAR, A]))?;
+    println!(rt; "a word past top: {}", check(&[0, A, A], 2))?;
+    println!(rt; "Var 0: {}", whole(&[0, VAR]))?;
+    println!(rt;
+        "a Var that names a header: {}",
+        whole(&[0, VAR + 2, G_1, A])
     )?;
-    let plain = [0, STR + 2, A];
-    cells_check(rt, b"Str that names an Atom of arity 0: ", &plain, 3)?;
-    let pair = [0, LIS + 2, A, A];
-    cells_check(rt, b"Lis 2, a, a: ", &pair, 4)?;
-    let half = [0, LIS + 2, A];
-    cells_check(rt, b"Lis 2, a: ", &half, 3)?;
-    let over = [0, LIS + 2, A, A, LIS + 3];
-    cells_check(rt, b"pairs that overlap: ", &over, 5)?;
-    let inner = [0, LIS + 2, A, G_1, A];
-    cells_check(rt, b"a pair with a header: ", &inner, 5)?;
-    let nested = [0, F_2, G_1, A, A];
-    cells_check(rt, b"a header in a run: ", &nested, 5)?;
-    let marked = [0, A + 0x0100_0000_0000_0000];
-    cells_check(rt, b"mark bit set: ", &marked, 2)?;
-    let forwarded = [0, A + 0x0200_0000_0000_0000];
-    cells_check(rt, b"forwarding bit set: ", &forwarded, 2)?;
-    let spare = [0, A + 0x0000_0100_0000_0000];
-    cells_check(rt, b"bit 40 of an Atom set: ", &spare, 2)
-}
-
-fn follow(rt: &impl Print, name: &[u8], cells: &[u64], top: usize, at: usize) -> io::Result<()> {
-    say(rt, name)?;
-    let mut word = 0;
-    let r = engine::trisculap_follow(cells, top, at, &mut word);
-    trial::told(rt, r, word)?;
-    say(rt, b"\n")
-}
-
-pub fn follows(rt: &impl Print) -> io::Result<()> {
-    let cells = [0, VAR + 2, VAR + 3, VAR + 3, VAR + 5, FIXNUM + 7, G_1, A];
-    follow(rt, b"follow 1: ", &cells, 8, 1)?;
-    follow(rt, b"follow 3: ", &cells, 8, 3)?;
-    follow(rt, b"follow 4: ", &cells, 8, 4)?;
-    follow(rt, b"follow 0: ", &cells, 8, 0)?;
-    follow(rt, b"follow top: ", &cells, 8, 8)?;
-    follow(rt, b"follow a header: ", &cells, 8, 6)?;
-    follow(
-        rt,
-        b"follow in a store that is not well formed: ",
-        &cells,
-        7,
-        1,
+    let no_atom = whole(&[0, STR + 2, A, STR + 1]);
+    println!(rt; "Str that names an Atom of arity 0, Str that names a Str: {no_atom}")?;
+    let atom = whole(&[0, STR + 2, A]);
+    println!(rt; "Str that names an Atom of arity 0: {atom}")?;
+    println!(rt; "Lis 2, a, a: {}", whole(&[0, LIS + 2, A, A]))?;
+    println!(rt; "Lis 2, a: {}", whole(&[0, LIS + 2, A]))?;
+    println!(rt;
+        "pairs that overlap: {}",
+        whole(&[0, LIS + 2, A, A, LIS + 3])
+    )?;
+    println!(rt; "a pair with a header: {}", whole(&[0, LIS + 2, A, G_1, A]))?;
+    println!(rt; "a header in a run: {}", whole(&[0, F_2, G_1, A, A]))?;
+    println!(rt; "mark bit set: {}", whole(&[0, A + 0x0100_0000_0000_0000]))?;
+    println!(rt;
+        "forwarding bit set: {}",
+        whole(&[0, A + 0x0200_0000_0000_0000])
+    )?;
+    println!(rt;
+        "bit 40 of an Atom set: {}",
+        whole(&[0, A + 0x0000_0100_0000_0000])
     )
 }
 
-fn number(rt: &impl Print, name: &[u8], n: i64) -> io::Result<()> {
-    say(rt, name)?;
+// The word at the end of the Vars from a cell.
+fn follow(cells: &[u64], top: usize, at: usize) -> Outcome<Told<Word>> {
     let mut word = 0;
-    let r = engine::trisculap_number(n, &mut word);
-    trial::told(rt, r, word)?;
-    say(rt, b"\n")
+    let r = engine::trisculap_follow(cells, top, at, &mut word);
+    Outcome::of(r, Told("word", Word(word)))
 }
 
+// Following from each kind of cell.
+pub fn follows(rt: &impl Print) -> io::Result<()> {
+    let cells = [0, VAR + 2, VAR + 3, VAR + 3, VAR + 5, FIXNUM + 7, G_1, A];
+    println!(rt; "follow 1: {}", follow(&cells, 8, 1))?;
+    println!(rt; "follow 3: {}", follow(&cells, 8, 3))?;
+    println!(rt; "follow 4: {}", follow(&cells, 8, 4))?;
+    println!(rt; "follow 0: {}", follow(&cells, 8, 0))?;
+    println!(rt; "follow top: {}", follow(&cells, 8, 8))?;
+    println!(rt; "follow a header: {}", follow(&cells, 8, 6))?;
+    println!(rt;
+        "follow in a store that is not well formed: {}",
+        follow(&cells, 7, 1)
+    )
+}
+
+// The cell of a number.
+fn number(n: i64) -> Outcome<Told<Word>> {
+    let mut word = 0;
+    let r = engine::trisculap_number(n, &mut word);
+    Outcome::of(r, Told("word", Word(word)))
+}
+
+// The least and the greatest number that has a cell, and the ones past them.
 pub fn numbers(rt: &impl Print) -> io::Result<()> {
-    number(rt, b"2^55 - 1: ", 0x007F_FFFF_FFFF_FFFF)?;
-    number(rt, b"2^55: ", 0x0080_0000_0000_0000)?;
-    number(rt, b"-2^55: ", -0x0080_0000_0000_0000)?;
-    number(rt, b"-2^55 - 1: ", -0x0080_0000_0000_0001)?;
-    number(rt, b"-1: ", -1)?;
-    number(rt, b"0: ", 0)
+    println!(rt; "2^55 - 1: {}", number(0x007F_FFFF_FFFF_FFFF))?;
+    println!(rt; "2^55: {}", number(0x0080_0000_0000_0000))?;
+    println!(rt; "-2^55: {}", number(-0x0080_0000_0000_0000))?;
+    println!(rt; "-2^55 - 1: {}", number(-0x0080_0000_0000_0001))?;
+    println!(rt; "-1: {}", number(-1))?;
+    println!(rt; "0: {}", number(0))
 }

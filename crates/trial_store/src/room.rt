@@ -1,23 +1,35 @@
 // Appends up to the limit and past it, in exactly as many lent cells as the limit.
-use std::io;
+use std::{fmt, io};
 use store::LIMIT;
-use trial::{FIXNUM, line, number, say};
+use trial::{FIXNUM, Lent, Outcome, Told};
 
-fn fill(rt: &impl Print, name: &[u8], words: &[u64]) -> io::Result<()> {
-    let mut cells = [0u64; LIMIT];
-    let mut top: usize = 1;
-    let none = &words[..0];
-    say(rt, name)?;
-    let mut at: usize = 0;
-    let r = engine::trisculap_append(&mut cells, &mut top, none, 0, none, 0, words, &mut at);
-    trial::numbered(rt, b"at ", r, at)?;
-    say(rt, b", top ")?;
-    number(rt, top)?;
-    line(rt)
+// What an append answered, and the top after it.
+#[derive(Clone, Copy)]
+pub struct Appended {
+    answer: Outcome<Told<usize>>,
+    top: usize,
 }
 
+impl fmt::Display for Appended {
+    fn fmt<W: fmt::Write>(&self, f: &mut fmt::Formatter<W>) -> fmt::Result {
+        write!(f, "{}, top {}", self.answer, self.top)
+    }
+}
+
+// Appends words to the cells below `top`.
+pub fn append(cells: [u64; LIMIT], top: usize, words: &[u64]) -> Appended {
+    let mut lent = Lent::<LIMIT, 0, 0>::of(cells, top);
+    let answer = lent.append(words);
+    Appended {
+        answer,
+        top: lent.top,
+    }
+}
+
+// As many cells as the limit, and one more.
 pub fn limits(rt: &impl Print) -> io::Result<()> {
+    let cells = [0; LIMIT];
     let words = [FIXNUM; LIMIT];
-    fill(rt, b"append to the limit: ", &words[..LIMIT - 1])?;
-    fill(rt, b"append past the limit: ", &words)
+    println!(rt; "append to the limit: {}", append(cells, 1, &words[1..]))?;
+    println!(rt; "append past the limit: {}", append(cells, 1, &words))
 }

@@ -1,72 +1,99 @@
-// One call, and a line that says what it answered and left.
-use std::io;
-use trial::{line, number, say};
+// One call, and what it answered and left.
+use std::fmt;
+use trial::{Lent, Outcome, zeros};
 
-// The two kinds of call.
-pub const PLAIN: bool = false;
-
-pub const CHECKED: bool = true;
-
-pub fn answer(rt: &impl Print, returned: u64, yes: u64) -> io::Result<()> {
-    trial::decided(rt, b"yes", b"no unifier", returned, yes)
+// A call, plain or checked, and its two roots.
+#[derive(Clone, Copy)]
+pub enum Call {
+    Plain(usize, usize),
+    Checked(usize, usize),
 }
 
-// The roots, the answer, the trail count, and how many work words at the start are 0.
-fn report(
-    rt: &impl Print,
-    returned: u64,
-    yes: u64,
+impl fmt::Display for Call {
+    fn fmt<W: fmt::Write>(&self, f: &mut fmt::Formatter<W>) -> fmt::Result {
+        match self {
+            Call::Plain(a, b) => write!(f, "plain ({a}, {b})"),
+            Call::Checked(a, b) => write!(f, "checked ({a}, {b})"),
+        }
+    }
+}
+
+impl Call {
+    // Both kinds of call, and both orders of the roots.
+    pub fn each(a: usize, b: usize) -> [Call; 4] {
+        [
+            Call::Plain(a, b),
+            Call::Plain(b, a),
+            Call::Checked(a, b),
+            Call::Checked(b, a),
+        ]
+    }
+
+    // Makes the call; tells its answer.
+    pub fn answer<const CELLS: usize, const ENTRIES: usize, const MARKS: usize>(
+        self,
+        heap: &mut Lent<CELLS, ENTRIES, MARKS>,
+        work: &mut [u64],
+    ) -> Outcome<&'static str> {
+        let mut yes = 0;
+        let r = match self {
+            Call::Plain(a, b) => engine::trisculap_unify(
+                &mut heap.cells,
+                heap.top,
+                &mut heap.trail,
+                &mut heap.trailed,
+                &heap.marks,
+                heap.marked,
+                work,
+                a,
+                b,
+                &mut yes,
+            ),
+            Call::Checked(a, b) => engine::trisculap_unify_checked(
+                &mut heap.cells,
+                heap.top,
+                &mut heap.trail,
+                &mut heap.trailed,
+                &heap.marks,
+                heap.marked,
+                work,
+                a,
+                b,
+                &mut yes,
+            ),
+        };
+        Outcome::of(r, if yes == 1 { "yes" } else { "no unifier" })
+    }
+
+    // Makes the call; tells its answer and what it left.
+    pub fn made<const CELLS: usize, const ENTRIES: usize, const MARKS: usize>(
+        self,
+        heap: &mut Lent<CELLS, ENTRIES, MARKS>,
+        work: &mut [u64],
+    ) -> Made {
+        let answer = self.answer(heap, work);
+        Made {
+            call: self,
+            answer,
+            trailed: heap.trailed,
+            zeros: zeros(work),
+        }
+    }
+}
+
+// A call and what it answered, the trail count after it, and how many work words at the start are 0.
+#[derive(Clone, Copy)]
+pub struct Made {
+    call: Call,
+    answer: Outcome<&'static str>,
     trailed: usize,
-    work: &[u64],
-    a: usize,
-    b: usize,
-) -> io::Result<()> {
-    say(rt, b"(")?;
-    number(rt, a)?;
-    say(rt, b", ")?;
-    number(rt, b)?;
-    say(rt, b"): ")?;
-    answer(rt, returned, yes)?;
-    say(rt, b", trail count ")?;
-    number(rt, trailed)?;
-    say(rt, b", work words 0: ")?;
-    number(rt, trial::zeros(work))?;
-    line(rt)
+    zeros: usize,
 }
 
-// One call of either kind, plain or checked.
-pub fn call(
-    rt: &impl Print,
-    name: &[u8],
-    kind: bool,
-    cells: &mut [u64],
-    top: usize,
-    trail: &mut [u64],
-    trailed: &mut usize,
-    work: &mut [u64],
-    a: usize,
-    b: usize,
-) -> io::Result<()> {
-    say(rt, name)?;
-    let mut yes = 0;
-    if kind == CHECKED {
-        say(rt, b", checked ")?;
-        let r = engine::trisculap_unify_checked(
-            cells,
-            top,
-            trail,
-            trailed,
-            &[],
-            0,
-            work,
-            a,
-            b,
-            &mut yes,
-        );
-        report(rt, r, yes, *trailed, work, a, b)
-    } else {
-        say(rt, b", plain ")?;
-        let r = engine::trisculap_unify(cells, top, trail, trailed, &[], 0, work, a, b, &mut yes);
-        report(rt, r, yes, *trailed, work, a, b)
+impl fmt::Display for Made {
+    fn fmt<W: fmt::Write>(&self, f: &mut fmt::Formatter<W>) -> fmt::Result {
+        write!(f, "{}: {}, ", self.call, self.answer)?;
+        write!(f, "trail count {}, ", self.trailed)?;
+        write!(f, "work words 0: {}", self.zeros)
     }
 }

@@ -4,11 +4,10 @@
 // CALL is 1 plain, 2 checked, 3 copy, 4 cyclic; cell 0 is left out of the cells; 0 ends the list.
 #![tactic(auto)]
 
-ghost use Rattle.std.specs.Prelude.{◌≤◌, length, IfOk};
+ghost use Rattle.std.specs.Prelude.{◌≡◌, ◌≢◌, ◌<◌, ◌≤◌, length, OnSome};
 
 use std::io;
 use std::io::Read;
-use trial::{number, say};
 
 const MOST_BYTES: usize = 0x4_0000;
 
@@ -17,256 +16,237 @@ const MOST_WORDS: usize = 128;
 // Twelve for each of as many cells.
 const WORK_WORDS: usize = 12 * MOST_WORDS;
 
-// No call answers this.
+// The answer in a row whose call is refused.
 const REFUSED: u64 = 0xFFFF;
 
-// A number, and the place behind it.
-#[derive(Drop)]
-struct Number {
-    value: u64,
-    next: usize,
+// The calls of a row.
+#[derive(Clone, Copy)]
+enum Call {
+    Plain,
+    Checked,
+    Copy,
+    Cyclic,
 }
 
-// What a digit stands for; 16 for any other byte.
-fn digit(b: u8) -> u64 {
-    if b >= 48 {
-        if b <= 57 {
-            return (b - 48) as u64;
-        }
-        if b >= 97 {
-            if b <= 102 {
-                return (b - 87) as u64;
-            }
+impl TryFrom<u64> for Call {
+    type Error = u64;
+
+    fn try_from(number: u64) -> Result<Call, u64> {
+        match number {
+            1 => Ok(Call::Plain),
+            2 => Ok(Call::Checked),
+            3 => Ok(Call::Copy),
+            4 => Ok(Call::Cyclic),
+            _ => Err(number),
         }
     }
-    16
 }
 
-// The first place from `at` on that has a digit.
-fn skip(text: &[u8], at: usize) -> usize {
-    let mut i = at;
-    while i < text.len() {
-        if digit(text[i]) < 16 {
-            return i;
-        }
-        i += 1;
-    }
-    i
-}
-
-// The number whose digits begin at `at`.
-fn digits(text: &[u8], at: usize) -> Number {
-    let mut value: u64 = 0;
-    let mut i = at;
-    while i < text.len() {
-        let d = digit(text[i]);
-        if d == 16 {
-            return Number { value, next: i };
-        }
-        value = (value << 4) | d;
-        i += 1;
-    }
-    Number { value, next: i }
-}
-
-// The next number from `at` on.
-fn read(text: &[u8], at: usize) -> Number {
-    let i = skip(text, at);
-    digits(text, i)
-}
-
-// A list of words: how many, and the place behind it.
-#[derive(Drop)]
+// A list of words, and how many it is said to have, which may be more than there is room for.
+#[derive(Clone, Copy, PartialEq)]
 struct List {
     words: [u64; MOST_WORDS],
     len: usize,
-    next: usize,
 }
 
-// The list at `at`: how many words, then all of them but the first `without`, which are 0.
-fn read_list(text: &[u8], at: usize, without: usize) -> List {
-    let mut words = [0u64; MOST_WORDS];
-    let n = read(text, at);
-    let len = n.value as usize;
-    let mut next = n.next;
-    for i in without..len {
-        if MOST_WORDS <= i {
-            break;
+const EMPTY: List = List {
+    words: [0; MOST_WORDS],
+    len: 0,
+};
+
+// The lent words of a call.
+#[derive(Clone, Copy, PartialEq)]
+struct Store {
+    cells: List,
+    trail: List,
+}
+
+// What a call tells; none where it is refused.
+fn told(returned: u64, answer: u64) -> Option<u64> {
+    (returned == 0).then_some(answer)
+}
+
+impl Store {
+    // A unification, plain or checked: 1 for yes, 0 for no.
+    fn unify<F>(&mut self, unify: F, a: usize, b: usize) -> Option<u64>
+    where
+        F: Fn(
+            &mut [u64],
+            usize,
+            &mut [u64],
+            &mut usize,
+            &[u64],
+            usize,
+            &mut [u64],
+            usize,
+            usize,
+            &mut u64,
+        ) -> u64
+            + Drop,
+        requires { F.IsAlwaysCallable unify }
+    {
+        let Store { cells, trail } = self;
+        let mut work = [7; WORK_WORDS];
+        let mut yes = 0;
+        let returned = unify(
+            &mut cells.words,
+            cells.len,
+            &mut trail.words,
+            &mut trail.len,
+            &[],
+            0,
+            &mut work,
+            a,
+            b,
+            &mut yes,
+        );
+        told(returned, yes)
+    }
+
+    // A copy: where it stands.
+    fn copy(&mut self, root: usize) -> Option<u64> {
+        let List { words, len } = &mut self.cells;
+        let mut at = 0;
+        let returned = engine::trisculap_copy(words, len, &mut [7; WORK_WORDS], root, &mut at);
+        told(returned, at as u64)
+    }
+
+    // The cycle verdict: 1 for yes, 0 for no.
+    fn cyclic(&self, root: usize) -> Option<u64> {
+        let mut yes = 0;
+        let returned = engine::trisculap_cyclic(&self.cells.words, self.cells.len, root, &mut yes);
+        told(returned, yes)
+    }
+
+    // Makes a call; none where it is refused.
+    fn make(&mut self, call: Call, a: usize, b: usize) -> Option<u64> {
+        match call {
+            Call::Plain => self.unify(engine::trisculap_unify, a, b),
+            Call::Checked => self.unify(engine::trisculap_unify_checked, a, b),
+            Call::Copy => self.copy(a),
+            Call::Cyclic => self.cyclic(a),
         }
-        let w = read(text, next);
-        words[i] = w.value;
-        next = w.next;
-    }
-    List { words, len, next }
-}
-
-fn same(xs: &[u64; MOST_WORDS], ys: &[u64; MOST_WORDS]) -> bool {
-    for i in 0..MOST_WORDS {
-        if xs[i] != ys[i] {
-            return false;
-        }
-    }
-    true
-}
-
-// An answer, or what stands for a refusal.
-fn said(returned: u64, answer: u64) -> u64 {
-    if returned == 0 { answer } else { REFUSED }
-}
-
-fn plain(
-    cells: &mut [u64],
-    top: usize,
-    trail: &mut [u64],
-    trailed: &mut usize,
-    work: &mut [u64],
-    a: usize,
-    b: usize,
-) -> u64 {
-    let none = [0u64; 1];
-    let mut yes = REFUSED;
-    let r = engine::trisculap_unify(cells, top, trail, trailed, &none, 0, work, a, b, &mut yes);
-    said(r, yes)
-}
-
-fn checked(
-    cells: &mut [u64],
-    top: usize,
-    trail: &mut [u64],
-    trailed: &mut usize,
-    work: &mut [u64],
-    a: usize,
-    b: usize,
-) -> u64 {
-    let none = [0u64; 1];
-    let mut yes = REFUSED;
-    let r = engine::trisculap_unify_checked(
-        cells, top, trail, trailed, &none, 0, work, a, b, &mut yes,
-    );
-    said(r, yes)
-}
-
-fn copied(cells: &mut [u64], top: &mut usize, work: &mut [u64], root: usize) -> u64 {
-    let mut at: usize = 0;
-    let r = engine::trisculap_copy(cells, top, work, root, &mut at);
-    said(r, at as u64)
-}
-
-fn cyclic(cells: &[u64], top: usize, root: usize) -> u64 {
-    let mut yes = REFUSED;
-    let r = engine::trisculap_cyclic(cells, top, root, &mut yes);
-    said(r, yes)
-}
-
-// Makes a call; 1 for yes, 0 for no, or where a copy stands.
-fn made(
-    cells: &mut [u64; MOST_WORDS],
-    top: &mut usize,
-    trail: &mut [u64; MOST_WORDS],
-    trailed: &mut usize,
-    call: u64,
-    a: usize,
-    b: usize,
-) -> u64 {
-    let mut work = [7u64; WORK_WORDS];
-    match call {
-        1 => plain(cells, *top, trail, trailed, &mut work, a, b),
-        2 => checked(cells, *top, trail, trailed, &mut work, a, b),
-        3 => copied(cells, top, &mut work, a),
-        4 => cyclic(cells, *top, a),
-        _ => REFUSED,
     }
 }
 
-// A row: whether it came out as written, and the place behind it.
+// A row: a call on a store, and what must come of it.
 #[derive(Drop)]
 struct Row {
-    right: bool,
-    next: usize,
+    call: Option<Call>,
+    a: usize,
+    b: usize,
+    answer: Option<u64>,
+    before: Store,
+    after: Store,
 }
 
-fn replayed(text: &[u8], call: Number) -> Row {
-    let a = read(text, call.next);
-    let b = read(text, a.next);
-    let answer = read(text, b.next);
-    let before = read_list(text, answer.next, 1);
-    let after = read_list(text, before.next, 1);
-    let entries = read_list(text, after.next, 0);
-    let mut cells = before.words;
-    let mut top = before.len;
-    let mut trail = [0u64; MOST_WORDS];
-    let mut trailed: usize = 0;
-    let got = made(
-        &mut cells,
-        &mut top,
-        &mut trail,
-        &mut trailed,
-        call.value,
-        a.value as usize,
-        b.value as usize,
-    );
-    let words = same(&cells, &after.words) && same(&trail, &entries.words);
-    let counts = top == after.len && trailed == entries.len;
-    Row {
-        right: got == answer.value && words && counts,
-        next: entries.next,
+impl Row {
+    // Whether the call comes out as written. A call of no known number is refused.
+    fn holds(&self) -> bool {
+        let mut store = self.before;
+        let answer = self.call.and_then(|call| store.make(call, self.a, self.b));
+        answer == self.answer && store == self.after
     }
 }
 
-// 1 for a row that came out otherwise than written, with a line about it.
-fn counted(rt: &impl Print, row: usize, right: bool) -> io::Result<usize>
-    ensures { IfOk result (λ n. n ≤ 1) }
+// What a digit stands for.
+fn digit(b: u8) -> Option<u64> {
+    match b {
+        b'0'..=b'9' => Some(u64::from(b - b'0')),
+        b'a'..=b'f' => Some(u64::from(b - b'a') + 10),
+        _ => None,
+    }
+}
+
+// The number of these digits; of more than sixteen the last sixteen.
+fn value(digits: &[u8]) -> u64
+    ensures { length digits.now ≡ 0 → result ≡ 0 }
 {
-    if right {
-        return Ok(0);
+    let mut value = 0;
+    for b in digits {
+        value = (value << 4) | digit(*b).unwrap_or(0);
     }
-    say(rt, b"different: row ")?;
-    number(rt, row)?;
-    say(rt, b"\n")?;
-    Ok(1)
+    value
 }
 
+// What is left of the text.
+#[derive(Drop)]
+struct Reader<'a> {
+    rest: &'a [u8],
+}
+
+impl Reader<'_> {
+    // The next number, past what is no digit; 0 where none is left.
+    fn number(&mut self) -> u64
+        ensures left { length self.new.rest.now ≤ length self.old.rest.now }
+        ensures taken { result ≢ 0 → length self.new.rest.now < length self.old.rest.now }
+    {
+        let start = self.rest.iter().position(|b| digit(*b).is_some());
+        let text = &self.rest[start.unwrap_or(self.rest.len())..];
+        let len = text.iter().position(|b| digit(*b).is_none());
+        let (digits, rest) = text.split_at(len.unwrap_or(text.len()));
+        self.rest = rest;
+        value(digits)
+    }
+
+    // The next list: how many words, then all of them but the first `without`, which are 0.
+    fn list(&mut self, without: usize) -> List
+        ensures { length self.new.rest.now ≤ length self.old.rest.now }
+    {
+        let len = self.number() as usize;
+        let mut words = [0; MOST_WORDS];
+        for word in words.iter_mut().take(len).skip(without) {
+            *word = self.number();
+        }
+        List { words, len }
+    }
+
+    // The next row; none at the end of the list.
+    fn row(&mut self) -> Option<Row>
+        ensures { OnSome result (length self.new.rest.now < length self.old.rest.now) }
+    {
+        let call = self.number();
+        if call == 0 {
+            return None;
+        }
+        Some(Row {
+            call: Call::try_from(call).ok(),
+            a: self.number() as usize,
+            b: self.number() as usize,
+            answer: Some(self.number()).filter(|answer| *answer != REFUSED),
+            before: Store {
+                cells: self.list(1),
+                trail: EMPTY,
+            },
+            after: Store {
+                cells: self.list(1),
+                trail: self.list(0),
+            },
+        })
+    }
+}
+
+// Tells of each row that comes out otherwise than written, and of how many do.
 fn replay(rt: &impl Print, text: &[u8]) -> io::Result<()> {
-    let mut rows: usize = 0;
-    let mut different: usize = 0;
-    let mut at = 0;
-    while at < text.len() {
-        let call = read(text, at);
-        if call.value == 0 {
-            break;
+    let mut reader = Reader { rest: text };
+    let mut rows = 0usize;
+    let mut different = 0usize;
+    while let Some(row) = reader.row() {
+        if !row.holds() {
+            println!(rt; "different: row {rows}")?;
+            different += 1;
         }
-        let row = replayed(text, call);
-        if row.next <= at {
-            break;
-        }
-        different += counted(rt, rows, row.right)?;
         rows += 1;
-        at = row.next;
     }
-    say(rt, b"rows ")?;
-    number(rt, rows)?;
-    say(rt, b", different ")?;
-    number(rt, different)?;
-    say(rt, b"\n")
-}
-
-// Reads until the bytes are full or the input ends; tells how many it read.
-fn read_full(input: &mut impl Read, bytes: &mut [u8]) -> io::Result<usize>
-    ensures { IfOk result (λ n. n ≤ length bytes.new) }
-{
-    let mut done = 0;
-    while done < bytes.len() {
-        let n = input.read(&mut bytes[done..])?;
-        if n == 0 {
-            break;
-        }
-        done += n;
-    }
-    Ok(done)
+    println!(rt; "rows {rows}, different {different}")
 }
 
 fn main(rt: HostRuntime) -> io::Result<()> {
-    let mut text = [0u8; MOST_BYTES];
-    let n = read_full(&mut rt.stdin(), &mut text)?;
-    replay(&rt, &text[..n])
+    let mut room = [0; MOST_BYTES];
+    let n = io::copy(
+        &mut rt.stdin().take(MOST_BYTES as u64),
+        &mut room.as_mut_slice(),
+    )?;
+    // That `n` is within the room follows from no promise of `copy`.
+    replay(&rt, &room[..MOST_BYTES.min(n as usize)])
 }

@@ -131,13 +131,13 @@ same_key : (sh : Shape) (classes : ℕ → ℕ) (R : ℕ → ℕ → Type 0)
     → (x y : View) → key classes x ≡ key classes y → Same sh R x y
 unfolding key
 same_key sh classes R f (free v) (free w) e = cc
-same_key sh classes R f (free v) (con w) e = let z : ◌≡◌ {A = ℕ} 0 1 = cc in omega arith
-same_key sh classes R f (free v) (nod w) e = let z : ◌≡◌ {A = ℕ} 0 1 = cc in omega arith
-same_key sh classes R f (con v) (free w) e = let z : ◌≡◌ {A = ℕ} 0 1 = cc in omega arith
+same_key sh classes R f (free v) (con w) e = cc
+same_key sh classes R f (free v) (nod w) e = cc
+same_key sh classes R f (con v) (free w) e = cc
 same_key sh classes R f (con v) (con w) e = cc
-same_key sh classes R f (con v) (nod w) e = let z : ◌≡◌ {A = ℕ} 0 1 = cc in omega arith
-same_key sh classes R f (nod v) (free w) e = let z : ◌≡◌ {A = ℕ} 0 1 = cc in omega arith
-same_key sh classes R f (nod v) (con w) e = let z : ◌≡◌ {A = ℕ} 0 1 = cc in omega arith
+same_key sh classes R f (con v) (nod w) e = cc
+same_key sh classes R f (nod v) (free w) e = cc
+same_key sh classes R f (nod v) (con w) e = cc
 same_key sh classes R f (nod v) (nod w) e = f v w (cc)
 
 pub agree : (sh : Shape) (look : ℕ → View) (classes : ℕ → ℕ) → Inv sh look classes [] → (d i j : ℕ)

@@ -1,8 +1,7 @@
 -- From a call's result to what it rests on: what a call that is not refused may rely on, and the ending of its run.
 use Rattle.std.proofs.Math.Path.{◌≡◌, refl, sym, ap}
-use Rattle.std.specs.Prelude.{Bool, not, List, ℕ, ◌-◌, ◌<◌, length}
+use Rattle.std.specs.Prelude.{Bool, not, List, ℕ, ◌-◌, ◌<◌, length, Ok, Err}
 use Rattle.std.proofs.Math.Bool.{true, false}
-use Rattle.std.proofs.lemmas.Bool.{false≢true}
 use native.Mathlib.Omega.{arith}
 use Rattle.std.proofs.Math.Dec.{leb}
 use borrow.Author.Tests.{leb-true, le-leb, lt-leb}
@@ -10,9 +9,7 @@ use Rattle.cell.specs.declared.Refusal.{Refusal}
 use Rattle.cell.specs.declared.Refusal.TheVariants.{Root, Work, TrailRoom, Cycle}
 use Rattle.store.specs.Store.{term_at, WellFormed}
 use Rattle.store.specs.WellFormed.{parts}
-use Rattle.trail.specs.declared.Answer.{Answer}
-use Rattle.trail.specs.declared.Answer.TheVariants.{Done, Refused}
-use Rattle.trail.specs.State.{State, Outcome, done, failed, refused, check_of, need, ◌then◌, check_passed}
+use Rattle.trail.specs.State.{State, Outcome, done, failed, refused, check_of, need, ◌then◌, check_passed, Answer}
 use Rattle.trail.specs.Facts.{holds_parts, check_holds}
 use Rattle.cycle.specs.Verdict.{cyclic_at}
 use Rattle.unification.specs.Machine.{Machine, Ending, yes, clashes, occurs, late, unified, start, fuel}
@@ -23,23 +20,23 @@ use Rattle.unification.proofs.Live.{live_start}
 use Rattle.unification.specs.Asked.{Asked}
 
 module _ (s : State) (work : List ℕ) (a b : ℕ) where
-  pub asked : plain_check s work a b ≡ Done → Asked s work a b
+  pub asked : plain_check s work a b ≡ Ok tt → Asked s work a b
   unfolding plain_check
   asked = go (check_of s) refl (term_at s.cells s.top a) refl (term_at s.cells s.top b) refl (leb (work_need s.top) (length work)) refl (leb (unbound s.cells s.top) (length s.trail - s.trailed)) refl
     where
-      go : (c : Answer) → check_of s ≡ c → (p : Bool) → term_at s.cells s.top a ≡ p → (q : Bool) → term_at s.cells s.top b ≡ q → (w : Bool) → leb (work_need s.top) (length work) ≡ w → (r : Bool) → leb (unbound s.cells s.top) (length s.trail - s.trailed) ≡ r → (c then need p Root then need q Root then need w Work then need r TrailRoom) ≡ Done → Asked s work a b
-      go Done ec true ep true eq true ew true er h =
+      go : (c : Answer) → check_of s ≡ c → (p : Bool) → term_at s.cells s.top a ≡ p → (q : Bool) → term_at s.cells s.top b ≡ q → (w : Bool) → leb (work_need s.top) (length work) ≡ w → (r : Bool) → leb (unbound s.cells s.top) (length s.trail - s.trailed) ≡ r → (c then need p Root then need q Root then need w Work then need r TrailRoom) ≡ Ok tt → Asked s work a b
+      go (Ok tt) ec true ep true eq true ew true er h =
           let hs = holds_parts s (check_passed s (sym ec)) in
           let f = hs.trail_good_lem.fits in
           let n = leb-true (unbound s.cells s.top) (length s.trail - s.trailed) er in
           record { held = hs; left = ep; right = eq; wide = leb-true (work_need s.top) (length work) ew; room = omega arith }
-      go Done ec true ep true eq true ew false er h = let z : true ≡ false = cc in absurd (false≢true (sym z))
-      go Done ec true ep true eq false ew r er h = let z : true ≡ false = cc in absurd (false≢true (sym z))
-      go Done ec true ep false eq w ew r er h = let z : true ≡ false = cc in absurd (false≢true (sym z))
-      go Done ec false ep q eq w ew r er h = let z : true ≡ false = cc in absurd (false≢true (sym z))
-      go (Refused x) ec p ep q eq w ew r er h = let z : true ≡ false = cc in absurd (false≢true (sym z))
+      go (Ok tt) ec true ep true eq true ew false er h = cc
+      go (Ok tt) ec true ep true eq false ew r er h = cc
+      go (Ok tt) ec true ep false eq w ew r er h = cc
+      go (Ok tt) ec false ep q eq w ew r er h = cc
+      go (Err x) ec p ep q eq w ew r er h = cc
 
-  pub asks : Asked s work a b → plain_check s work a b ≡ Done
+  pub asks : Asked s work a b → plain_check s work a b ≡ Ok tt
   unfolding plain_check
   asks k =
       let f = k.held.trail_good_lem.fits in
@@ -47,17 +44,17 @@ module _ (s : State) (work : List ℕ) (a b : ℕ) where
       rw (check_holds s k.held, k.left, k.right, le-leb (work_need s.top) (length work) k.wide, le-leb (unbound s.cells s.top) (length s.trail - s.trailed) (omega arith))
 
   -- refusal 6 of neither root
-  pub checked_asked : checked_check s work a b ≡ Done → Asked s work a b × (cyclic_at s.cells s.top a ≡ false) × (cyclic_at s.cells s.top b ≡ false)
+  pub checked_asked : checked_check s work a b ≡ Ok tt → Asked s work a b × (cyclic_at s.cells s.top a ≡ false) × (cyclic_at s.cells s.top b ≡ false)
   unfolding checked_check
   checked_asked = go (plain_check s work a b) refl (cyclic_at s.cells s.top a) refl (cyclic_at s.cells s.top b) refl
     where
-      go : (c : Answer) → plain_check s work a b ≡ c → (p : Bool) → cyclic_at s.cells s.top a ≡ p → (q : Bool) → cyclic_at s.cells s.top b ≡ q → (c then need (not p) Cycle then need (not q) Cycle) ≡ Done → Asked s work a b × (cyclic_at s.cells s.top a ≡ false) × (cyclic_at s.cells s.top b ≡ false)
-      go Done ec false ep false eq h = (asked ec, ep, eq)
-      go Done ec false ep true eq h = let z : true ≡ false = cc in absurd (false≢true (sym z))
-      go Done ec true ep q eq h = let z : true ≡ false = cc in absurd (false≢true (sym z))
-      go (Refused x) ec p ep q eq h = let z : true ≡ false = cc in absurd (false≢true (sym z))
+      go : (c : Answer) → plain_check s work a b ≡ c → (p : Bool) → cyclic_at s.cells s.top a ≡ p → (q : Bool) → cyclic_at s.cells s.top b ≡ q → (c then need (not p) Cycle then need (not q) Cycle) ≡ Ok tt → Asked s work a b × (cyclic_at s.cells s.top a ≡ false) × (cyclic_at s.cells s.top b ≡ false)
+      go (Ok tt) ec false ep false eq h = (asked ec, ep, eq)
+      go (Ok tt) ec false ep true eq h = cc
+      go (Ok tt) ec true ep q eq h = cc
+      go (Err x) ec p ep q eq h = cc
 
-  pub checked_asks : plain_check s work a b ≡ Done → cyclic_at s.cells s.top a ≡ false → cyclic_at s.cells s.top b ≡ false → checked_check s work a b ≡ Done
+  pub checked_asks : plain_check s work a b ≡ Ok tt → cyclic_at s.cells s.top a ≡ false → cyclic_at s.cells s.top b ≡ false → checked_check s work a b ≡ Ok tt
   unfolding checked_check
   checked_asks c p q = rw (c, p, q)
 
@@ -70,35 +67,35 @@ module _ (s : State) (work : List ℕ) (a b : ℕ) where
     asked_live = live_start s a b asked_store k.left k.right k.room
 
   -- ---- the refusals, by the tests that a call makes
-  pub refuses_state : (e : Refusal) → check_of s ≡ Refused e → plain_check s work a b ≡ Refused e
+  pub refuses_state : (e : Refusal) → check_of s ≡ Err e → plain_check s work a b ≡ Err e
   unfolding plain_check
   refuses_state e c = rw c
 
-  module _ (c : check_of s ≡ Done) where
-    pub refuses_left : term_at s.cells s.top a ≡ false → plain_check s work a b ≡ Refused Root
+  module _ (c : check_of s ≡ Ok tt) where
+    pub refuses_left : term_at s.cells s.top a ≡ false → plain_check s work a b ≡ Err Root
     unfolding plain_check
     refuses_left p = rw (c, p)
 
     module _ (p : term_at s.cells s.top a ≡ true) where
-      pub refuses_right : term_at s.cells s.top b ≡ false → plain_check s work a b ≡ Refused Root
+      pub refuses_right : term_at s.cells s.top b ≡ false → plain_check s work a b ≡ Err Root
       unfolding plain_check
       refuses_right q = rw (c, p, q)
 
       module _ (q : term_at s.cells s.top b ≡ true) where
-        pub refuses_work : length work < work_need s.top → plain_check s work a b ≡ Refused Work
+        pub refuses_work : length work < work_need s.top → plain_check s work a b ≡ Err Work
         unfolding plain_check
         refuses_work h = rw (c, p, q, lt-leb (work_need s.top) (length work) h)
 
-  pub refuses_plain : (e : Refusal) → plain_check s work a b ≡ Refused e → checked_check s work a b ≡ Refused e
+  pub refuses_plain : (e : Refusal) → plain_check s work a b ≡ Err e → checked_check s work a b ≡ Err e
   unfolding checked_check
   refuses_plain e c = rw c
 
   -- ---- a result, from the ending of the run
-  pub plain_says : plain_check s work a b ≡ Done → plainly s work a b ≡ answered s work (unified false s a b)
+  pub plain_says : plain_check s work a b ≡ Ok tt → plainly s work a b ≡ answered s work (unified false s a b)
   unfolding plainly
   plain_says c = rw c
 
-  pub checked_says : checked_check s work a b ≡ Done → checkedly s work a b ≡ answered s work (unified true s a b)
+  pub checked_says : checked_check s work a b ≡ Ok tt → checkedly s work a b ≡ answered s work (unified true s a b)
   unfolding checkedly
   checked_says c = rw c
 
@@ -120,25 +117,25 @@ module _ (s : State) (work : List ℕ) (a b : ℕ) where
     first_of e = ap (λ (r : Result). r.0) e
 
     -- yes: the run ended so, and left the state
-    pub from_yes : unless_refused c s work (answered s work o) ≡ (done 0, t, w) → (c ≡ Done) × ((m : Machine) × (o ≡ yes m) × (t ≡ left_by s m) × (w ≡ cleared (work_need s.top) work))
+    pub from_yes : unless_refused c s work (answered s work o) ≡ (done 0, t, w) → (c ≡ Ok tt) × ((m : Machine) × (o ≡ yes m) × (t ≡ left_by s m) × (w ≡ cleared (work_need s.top) work))
     unfolding answered
     from_yes = go c o
       where
-        go : (c : Answer) (o : Ending) → unless_refused c s work (answered s work o) ≡ (done 0, t, w) → (c ≡ Done) × ((m : Machine) × (o ≡ yes m) × (t ≡ left_by s m) × (w ≡ cleared (work_need s.top) work))
-        go Done (yes m) e = (refl, (m, refl, sym (ap (λ (r : Result). r.1) e), sym (ap (λ (r : Result). r.2) e)))
-        go Done clashes e = let q : failed ≡ done 0 = first_of e in let z : ◌≡◌ {A = ℕ} 0 1 = cc in absurd (omega arith)
-        go Done occurs e = let q : failed ≡ done 0 = first_of e in let z : ◌≡◌ {A = ℕ} 0 1 = cc in absurd (omega arith)
-        go Done late e = let q : failed ≡ done 0 = first_of e in let z : ◌≡◌ {A = ℕ} 0 1 = cc in absurd (omega arith)
-        go (Refused x) o e = let q : refused x ≡ done 0 = first_of e in let z : ◌≡◌ {A = ℕ} 0 1 = cc in absurd (omega arith)
+        go : (c : Answer) (o : Ending) → unless_refused c s work (answered s work o) ≡ (done 0, t, w) → (c ≡ Ok tt) × ((m : Machine) × (o ≡ yes m) × (t ≡ left_by s m) × (w ≡ cleared (work_need s.top) work))
+        go (Ok tt) (yes m) e = (refl, (m, refl, sym (ap (λ (r : Result). r.1) e), sym (ap (λ (r : Result). r.2) e)))
+        go (Ok tt) clashes e = let q : failed ≡ done 0 = first_of e in cc
+        go (Ok tt) occurs e = let q : failed ≡ done 0 = first_of e in cc
+        go (Ok tt) late e = let q : failed ≡ done 0 = first_of e in cc
+        go (Err x) o e = let q : refused x ≡ done 0 = first_of e in cc
 
     -- no unifier: the run did not end in a yes, and the state is as at entry
-    pub from_no : unless_refused c s work (answered s work o) ≡ (failed, t, w) → (c ≡ Done) × ((m : Machine) → o ≡ yes m → ⊥) × (t ≡ s) × (w ≡ cleared (work_need s.top) work)
+    pub from_no : unless_refused c s work (answered s work o) ≡ (failed, t, w) → (c ≡ Ok tt) × ((m : Machine) → o ≡ yes m → ⊥) × (t ≡ s) × (w ≡ cleared (work_need s.top) work)
     unfolding answered
     from_no = go c o
       where
-        go : (c : Answer) (o : Ending) → unless_refused c s work (answered s work o) ≡ (failed, t, w) → (c ≡ Done) × ((m : Machine) → o ≡ yes m → ⊥) × (t ≡ s) × (w ≡ cleared (work_need s.top) work)
-        go Done (yes m) e = let q : done 0 ≡ failed = first_of e in let z : ◌≡◌ {A = ℕ} 0 1 = cc in absurd (omega arith)
-        go Done clashes e = (refl, (λ m q. let z : ◌≡◌ {A = ℕ} 0 1 = cc in omega arith), sym (ap (λ (r : Result). r.1) e), sym (ap (λ (r : Result). r.2) e))
-        go Done occurs e = (refl, (λ m q. let z : ◌≡◌ {A = ℕ} 0 1 = cc in omega arith), sym (ap (λ (r : Result). r.1) e), sym (ap (λ (r : Result). r.2) e))
-        go Done late e = (refl, (λ m q. let z : ◌≡◌ {A = ℕ} 0 1 = cc in omega arith), sym (ap (λ (r : Result). r.1) e), sym (ap (λ (r : Result). r.2) e))
-        go (Refused x) o e = let q : refused x ≡ failed = first_of e in let z : ◌≡◌ {A = ℕ} 0 1 = cc in absurd (omega arith)
+        go : (c : Answer) (o : Ending) → unless_refused c s work (answered s work o) ≡ (failed, t, w) → (c ≡ Ok tt) × ((m : Machine) → o ≡ yes m → ⊥) × (t ≡ s) × (w ≡ cleared (work_need s.top) work)
+        go (Ok tt) (yes m) e = let q : done 0 ≡ failed = first_of e in cc
+        go (Ok tt) clashes e = (refl, (λ m q. cc), sym (ap (λ (r : Result). r.1) e), sym (ap (λ (r : Result). r.2) e))
+        go (Ok tt) occurs e = (refl, (λ m q. cc), sym (ap (λ (r : Result). r.1) e), sym (ap (λ (r : Result). r.2) e))
+        go (Ok tt) late e = (refl, (λ m q. cc), sym (ap (λ (r : Result). r.1) e), sym (ap (λ (r : Result). r.2) e))
+        go (Err x) o e = let q : refused x ≡ failed = first_of e in cc

@@ -41,8 +41,8 @@ module _ (sh : Shape) (look : ℕ → View) where
   arg_term a n j (t, h) e l = at t h
     where
       at : (t : Term) → Stands sh look t a → HasTerm sh look (sh.arg n j)
-      at (variable v) h = let z : ◌≡◌ {A = ℕ} 0 1 = cc in absurd (omega arith)
-      at (constant v) h = let z : ◌≡◌ {A = ℕ} 0 1 = cc in absurd (omega arith)
+      at (variable v) h = cc
+      at (constant v) h = cc
       at (compound f ts) h = let q : h.0 ≡ n = cc in (nth ts j, rw q at (stands_arg sh look ts h.0 h.3 j (omega (arith, ap (λ x. x.1) h.2, ap (λ x. arity_of sh x) q))))
 
 module _ (sh : Shape) (look₀ : ℕ → View) (s : Seen) (a b : ℕ) (I : Finitely sh look₀ s) where

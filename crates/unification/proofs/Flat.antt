@@ -36,7 +36,7 @@ Simple (nod n) = ⊥
 
 -- a cell that stays and holds neither a Str nor a Lis shows one
 flat_view : (cells : List ℕ) (k : Kind) → flat_kind k ≡ true → Simple (view_kind cells k)
-unfolding flat_kind view_kind
+unfolding view_kind
 flat_view cells (Var v) h = tt
 flat_view cells (Str v) h = absurd (false≢true h)
 flat_view cells (Lis v) h = absurd (false≢true h)
@@ -77,7 +77,7 @@ module _ (s : State) (wf : WellFormed s.cells s.top) (a b : ℕ) (live : Live s 
 
   -- it holds neither a Str nor a Lis now
   flat_here : (i : ℕ) → i < top → Was i → flat_kind (kind_at m.cells i) ≡ true
-  unfolding flat_kind bound_flat
+  unfolding bound_flat
   flat_here i h u =
       ⊎_elim (λ q. ap flat_kind (still i h u q))
       (λ n. subst (λ (j : ℕ). flat_kind (kind_at m.cells j) ≡ true) n.3 (let z = n.2 in all_holds (entry_flat m.cells m.trail) (m.trailed - s.trailed) s.trailed flat n.0 n.1 (omega arith)))

@@ -262,15 +262,15 @@ module _ (s : State) (check : Bool) (A : Seen → Type 0) (C O : Type 0)
 
       binding : (p : ℕ × ℕ) (rest : List (ℕ × ℕ)) (e : m.pairs ≡ p ∷ rest) → Next → (v : ℕ) (x : View) → act_of m (end_a s f m p rest e l) (end_b s f m p rest e l) ≡ bind v x → CaseHere s f m p rest e l (bind v x) → A (pushed p.0 p.1 (seen_of s.top (popped m rest))) → (t : Bool) → stopped check m.cells s.top v x (other (end_a s f m p rest e l) (end_b s f m p rest e l) v) ≡ t → To (run check s.top (suc f) m)
       binding p rest e ih v x q c k true z = subst To (sym (turn_occurs s f m p rest e l check v x q z)) (at_stop (stops_checked s f m p rest e l check v x c z) (seen_of s.top (popped m rest)) p.0 p.1 (stops_at s f m p rest e l check v x c z) k)
-      binding p rest e ih v x q c k false z = step p rest e ih (bind v x) c (λ b. let y : ◌≡◌ {A = ℕ} 0 1 = cc in omega arith) (lets_pass s f m p rest e l check v x c z) k (turn_bind s f m p rest e l check v x q z)
+      binding p rest e ih v x q c k false z = step p rest e ih (bind v x) c (λ b. cc) (lets_pass s f m p rest e l check v x c z) k (turn_bind s f m p rest e l check v x q z)
 
       clashing : (p : ℕ × ℕ) (rest : List (ℕ × ℕ)) (e : m.pairs ≡ p ∷ rest) → CaseHere s f m p rest e l clash → A (pushed p.0 p.1 (seen_of s.top (popped m rest))) → C
       clashing p rest e (parts x) k = at_clash (seen_of s.top (popped m rest)) p.0 p.1 x k
 
       one : (p : ℕ × ℕ) (rest : List (ℕ × ℕ)) (e : m.pairs ≡ p ∷ rest) → Next → (u : Act) → act_of m (end_a s f m p rest e l) (end_b s f m p rest e l) ≡ u → CaseHere s f m p rest e l u → A (pushed p.0 p.1 (seen_of s.top (popped m rest))) → To (run check s.top (suc f) m)
-      one p rest e ih skip q c k = step p rest e ih skip c (λ b. let y : ◌≡◌ {A = ℕ} 0 1 = cc in omega arith) (λ ck v n b. let y : ◌≡◌ {A = ℕ} 0 1 = cc in absurd (omega arith)) k (turn_skip s f m p rest e l check q)
+      one p rest e ih skip q c k = step p rest e ih skip c (λ b. cc) (λ ck v n b. cc) k (turn_skip s f m p rest e l check q)
       one p rest e ih (bind v x) q c k = binding p rest e ih v x q c k (stopped check m.cells s.top v x (other (end_a s f m p rest e l) (end_b s f m p rest e l) v)) refl
-      one p rest e ih (join n j) q c k = step p rest e ih (join n j) c (λ b. let y : ◌≡◌ {A = ℕ} 0 1 = cc in omega arith) (λ ck v n b. let y : ◌≡◌ {A = ℕ} 0 1 = cc in absurd (omega arith)) k (turn_join s f m p rest e l check n j q)
+      one p rest e ih (join n j) q c k = step p rest e ih (join n j) c (λ b. cc) (λ ck v n b. cc) k (turn_join s f m p rest e l check n j q)
       one p rest e ih clash q c k = subst To (sym (turn_clash s f m p rest e l check q)) (clashing p rest e c k)
 
       go : (S : List (ℕ × ℕ)) → m.pairs ≡ S → Next → To (run check s.top (suc f) m)

@@ -83,7 +83,7 @@ module _ (s : List ℕ) (top : ℕ) (wf : WellFormed s top) where
     stops_below t = go (reach_within v q (true_reach s top wf e l h v t) refl l h)
       where
         go : Within (shape_of s) (look_at s top) v e → Below (shape_of s) (look_at s top) v n
-        go (itself z) = let y : ◌≡◌ {A = ℕ} 0 1 = cc in absurd (omega arith)
+        go (itself z) = cc
         go (inside m k z b w) = let y : m ≡ n = cc in subst (Below (shape_of s) (look_at s top) v) y (k, b, w)
 
     pub passes_clear : stopped true s top v (nod n) e ≡ false → Below (shape_of s) (look_at s top) v n → ⊥

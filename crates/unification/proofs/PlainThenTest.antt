@@ -35,7 +35,7 @@ same_or_occurs top (suc f) m = go (λ t. same_or_occurs top f t) m.pairs
 
     binding : Next → (t : Machine) (c d : Bool) → d ≡ false → (cond c occurs (run true top f t) ≡ cond d occurs (run false top f t)) ⊎ (cond c occurs (run true top f t) ≡ occurs)
     binding ih t true d p = inr refl
-    binding ih t false true p = let y : ◌≡◌ {A = ℕ} 0 1 = cc in absurd (omega arith)
+    binding ih t false true p = cc
     binding ih t false false p = ih t
 
     act : Next → (t : Machine) (a b : ℕ) (u : Act) → (after true top (λ t. run true top f t) t a b u ≡ after false top (λ t. run false top f t) t a b u) ⊎ (after true top (λ t. run true top f t) t a b u ≡ occurs)
@@ -49,7 +49,7 @@ same_or_occurs top (suc f) m = go (λ t. same_or_occurs top f t) m.pairs
     go ih (p ∷ S) = act ih (popped m S) (end_of m.cells top p.0) (end_of m.cells top p.1) (act_of m (end_of m.cells top p.0) (end_of m.cells top p.1))
 
 pub passed : (top f : ℕ) (m z : Machine) → run true top f m ≡ yes z → run false top f m ≡ yes z
-passed top f m z e = ⊎_elim (λ q. sym q ∙ e) (λ q. let d : occurs ≡ yes z = sym q ∙ e in let y : ◌≡◌ {A = ℕ} 0 1 = cc in absurd (omega arith)) (same_or_occurs top f m)
+passed top f m z e = ⊎_elim (λ q. sym q ∙ e) (λ q. let d : occurs ≡ yes z = sym q ∙ e in cc) (same_or_occurs top f m)
 
 grows_put : (look : ℕ → View) (v : ℕ) (x y z : View) → Grows look y z → Grows (λ i. put v x (look i)) y (put v x z)
 unfolding put
@@ -172,8 +172,8 @@ module _ (s : State) (wf : WellFormed s.cells s.top) (a b : ℕ) (live : Live s 
         cons c w i q h = let g : look i ≡ con c = subst (λ (y : View). Grows look y (look i)) q (later_end i) in stands_once sh look (constant c) w i g h
 
         cmps : (f : ℕ) (ts : Terms) → ((k : ℕ) → k < many ts → (w : Term) (i : ℕ) → Stands sh look₀ (nth ts k) i → Stands sh look w i → inst now (nth ts k) ≡ w) → (w : Term) (i : ℕ) → Stands sh look₀ (compound f ts) i → Stands sh look w i → compound f (insts now ts) ≡ w
-        cmps f ts q (variable v) i c h = let g : look i ≡ nod c.0 = subst (λ (y : View). Grows look y (look i)) c.1 (later_end i) in let y : ◌≡◌ {A = ℕ} 0 1 = cc in absurd (omega arith)
-        cmps f ts q (constant v) i c h = let g : look i ≡ nod c.0 = subst (λ (y : View). Grows look y (look i)) c.1 (later_end i) in let y : ◌≡◌ {A = ℕ} 0 1 = cc in absurd (omega arith)
+        cmps f ts q (variable v) i c h = let g : look i ≡ nod c.0 = subst (λ (y : View). Grows look y (look i)) c.1 (later_end i) in cc
+        cmps f ts q (constant v) i c h = let g : look i ≡ nod c.0 = subst (λ (y : View). Grows look y (look i)) c.1 (later_end i) in cc
         cmps f ts q (compound g us) i c h =
             let n : look i ≡ nod c.0 = subst (λ (y : View). Grows look y (look i)) c.1 (later_end i) in
             let o : c.0 ≡ h.0 = cc in

@@ -27,14 +27,14 @@ module _ (s : State) (check : Bool) where
           b = end_b s f m p rest e l
 
           binding : (v : ℕ) (x : View) → CaseHere s f m p rest e l (bind v x) → (c : Bool) → cond c occurs (yes (written (popped m rest) v (other a b v))) ≡ yes t → Live s f t
-          binding v x k true q = let z : ◌≡◌ {A = ℕ} 0 1 = cc in absurd (omega arith)
+          binding v x k true q = cc
           binding v x k false q = subst (Live s f) (to_yes _ t q) (live_step s f m p rest e l (bind v x) k)
 
           by : (u : Act) → act_of m a b ≡ u → CaseHere s f m p rest e l u → after check s.top yes (popped m rest) a b u ≡ yes t → Live s f t
           by skip z k q = subst (Live s f) (to_yes _ t q) (live_step s f m p rest e l skip k)
           by (bind v x) z k q = binding v x k (stopped check m.cells s.top v x (other a b v)) q
           by (join i j) z k q = subst (Live s f) (ap (λ (h : Shape). joined h (popped m rest) i j) (sym l.shape) ∙ to_yes _ t q) (live_step s f m p rest e l (join i j) k)
-          by clash z k q = let z : ◌≡◌ {A = ℕ} 0 1 = cc in absurd (omega arith)
+          by clash z k q = cc
 
   pub comes_live : (a b : ℕ) → Live s (fuel s.top) (start s a b) → {m : Machine} → Comes check s a b m → (f : ℕ) × (f ≤ fuel s.top) × Live s f m
   comes_live a b l first = (fuel s.top, omega arith, l)

@@ -1,5 +1,5 @@
 -- What unification promises, of any state, work buffer and roots: stated over words and over the results of the two calls. Terms, substitutions and unifiers are those of ISO/IEC 13211-1, 7.1 and 7.3; checked unification is its 8.2.2.
-use Rattle.std.specs.Prelude.{◌≡◌, Bool, ◌↔◌, ℕ, ◌+◌, ◌*◌, ◌≤◌, length}
+use Rattle.std.specs.Prelude.{◌≡◌, Bool, ◌↔◌, ℕ, ◌+◌, ◌*◌, ◌≤◌, length, Ok, Err}
 use Rattle.std.proofs.Math.Path.{refl, sym, ap, subst}
 use Rattle.std.proofs.Common.{◌∙◌}
 use Rattle.std.proofs.Math.Bool.{true, false, false≢true}
@@ -9,7 +9,6 @@ use Rattle.cell.specs.declared.Refusal.{Refusal}
 use Rattle.store.specs.Store.{term_at, WellFormed}
 use Rattle.store.specs.Steps.{term_used}
 use Rattle.store.specs.WellFormed.{whole}
-use Rattle.trail.specs.declared.Answer.TheVariants.{Done, Refused}
 use Rattle.trail.specs.State.{State, done, failed, refused}
 use Rattle.trail.specs.Seen.{Named}
 use Rattle.cycle.specs.Graph.{Cyclic}
@@ -43,7 +42,7 @@ module _ (s : State) (work : List ℕ) (a b : ℕ) where
 
   -- ---- a run ends, and its pairs have room
   -- the fuel is never spent
-  pub never_late : (check : Bool) → plain_check s work a b ≡ Done → unified check s a b ≡ late → ⊥
+  pub never_late : (check : Bool) → plain_check s work a b ≡ Ok tt → unified check s a b ≡ late → ⊥
   unfolding unified
   never_late check c e =
       let k = asked s work a b c in
@@ -51,29 +50,29 @@ module _ (s : State) (work : List ℕ) (a b : ℕ) where
       (run_keeps s check (λ _. Unit {0}) (Unit {0}) (Unit {0}) (λ _ _ _ _ _ _ _ _. tt) (λ _ _ _ _ _. tt) (λ _ _ _ _ _ _. tt) (fuel top) (start s a b) (asked_live s work a b k) tt)
 
   -- at most 3 x `top` + 1 pairs ever stand
-  pub pairs_fit : (check : Bool) → plain_check s work a b ≡ Done → {m : Machine} → Comes check s a b m → length m.pairs ≤ 3 * top + 1
+  pub pairs_fit : (check : Bool) → plain_check s work a b ≡ Ok tt → {m : Machine} → Comes check s a b m → length m.pairs ≤ 3 * top + 1
   pairs_fit check c = standing s check a b (asked_live s work a b (asked s work a b c))
 
   -- whatever a run comes to is a well-formed store, and unbinding what it has trailed, in any order, gives the cells at entry back
-  pub run_store : (check : Bool) → plain_check s work a b ≡ Done → {m : Machine} → Comes check s a b m → WellFormed m.cells top
+  pub run_store : (check : Bool) → plain_check s work a b ≡ Ok tt → {m : Machine} → Comes check s a b m → WellFormed m.cells top
   run_store check c r = (comes_live s check a b (asked_live s work a b (asked s work a b c)) r).2.store
 
-  pub run_undone : (check : Bool) → plain_check s work a b ≡ Done → {m : Machine} → Comes check s a b m → (es : List ℕ) → ((j : ℕ) → Named m.trail s.trailed m.trailed j ↔ Listed es j) → unbinding es m.cells ≡ s.cells
+  pub run_undone : (check : Bool) → plain_check s work a b ≡ Ok tt → {m : Machine} → Comes check s a b m → (es : List ℕ) → ((j : ℕ) → Named m.trail s.trailed m.trailed j ↔ Listed es j) → unbinding es m.cells ≡ s.cells
   run_undone check c {m} r es n =
       let l = (comes_live s check a b (asked_live s work a b (asked s work a b c)) r).2 in
       undone_by s m.cells m.trail m.trailed l.wrote es l.store.room (λ j. (n j).0) (λ j. (n j).1)
 
   -- ---- the words that are left
   -- a refusal changes nothing; each is given exactly where the check gives it
-  pub plain_refused : (e : Refusal) → plain_check s work a b ≡ Refused e → plainly s work a b ≡ (refused e, s, work)
+  pub plain_refused : (e : Refusal) → plain_check s work a b ≡ Err e → plainly s work a b ≡ (refused e, s, work)
   unfolding plainly
   plain_refused e c = rw c
 
-  pub checked_refused : (e : Refusal) → checked_check s work a b ≡ Refused e → checkedly s work a b ≡ (refused e, s, work)
+  pub checked_refused : (e : Refusal) → checked_check s work a b ≡ Err e → checkedly s work a b ≡ (refused e, s, work)
   unfolding checkedly
   checked_refused e c = rw c
 
-  module _ (check : Bool) (c : plain_check s work a b ≡ Done) (m : Machine) (e : unified check s a b ≡ yes m) where
+  module _ (check : Bool) (c : plain_check s work a b ≡ Ok tt) (m : Machine) (e : unified check s a b ≡ yes m) where
     ended : (f : ℕ) × Live s f m
     unfolding unified
     ended = let k = asked s work a b c in live_end s (asked_store s work a b k) a b (asked_live s work a b k) check m e
@@ -122,7 +121,7 @@ module _ (s : State) (work : List ℕ) (a b : ℕ) where
 
   -- of trees for the cells, finite or endless, that make the roots equal: whatever cells P speaks of beside the roots, and whatever the rest of the store holds
   module _ (D : Type 0) (label : D → Label) (sub : D → ℕ → D) (P : ℕ → Type 0) (σ : ℕ → D) (k : SolvesAt D label sub P s.cells top σ) (pa : P a) (pb : P b) (q : σ a ≡ σ b) where
-    ends_kept : plain_check s work a b ≡ Done → Ends s (Keeps D label sub P (shape_of s.cells) σ) ⊥ ⊥ (unified false s a b)
+    ends_kept : plain_check s work a b ≡ Ok tt → Ends s (Keeps D label sub P (shape_of s.cells) σ) ⊥ ⊥ (unified false s a b)
     unfolding unified
     ends_kept c =
         run_keeps s false (Keeps D label sub P (shape_of s.cells) σ) ⊥ ⊥ (λ r i j u c n _ k. sound D label sub P (shape_of s.cells) σ r i j u c n k) (no_solution D label sub P (shape_of s.cells) σ) (λ z. absurd (false≢true z))
@@ -143,7 +142,7 @@ module _ (s : State) (work : List ℕ) (a b : ℕ) where
     unfolding plainly
     plain_no t w h = at (unified false s a b) refl
       where
-        no : (plain_check s work a b ≡ Done) × ((m : Machine) → unified false s a b ≡ yes m → ⊥) × (t ≡ s) × (w ≡ cleared (work_need top) work)
+        no : (plain_check s work a b ≡ Ok tt) × ((m : Machine) → unified false s a b ≡ yes m → ⊥) × (t ≡ s) × (w ≡ cleared (work_need top) work)
         no = from_no s work a b (plain_check s work a b) (unified false s a b) t w h
 
         ends : (o : Ending) → unified false s a b ≡ o → Ends s (Keeps D label sub P (shape_of s.cells) σ) ⊥ ⊥ o
@@ -156,7 +155,7 @@ module _ (s : State) (work : List ℕ) (a b : ℕ) where
         at late e = ends late e
 
   -- ---- checked unification
-  module _ (c : plain_check s work a b ≡ Done) (ca : cyclic_at s.cells top a ≡ false) (cb : cyclic_at s.cells top b ≡ false) where
+  module _ (c : plain_check s work a b ≡ Ok tt) (ca : cyclic_at s.cells top a ≡ false) (cb : cyclic_at s.cells top b ≡ false) where
     abbrev k : Asked s work a b
     k = asked s work a b c
 
@@ -231,7 +230,7 @@ module _ (s : State) (work : List ℕ) (a b : ℕ) where
       n.1 y.0 y.1
 
   -- ---- with both roots acyclic and no refusal from 1 to 5
-  module _ (c : plain_check s work a b ≡ Done) (na : Cyclic s.cells a → ⊥) (nb : Cyclic s.cells b → ⊥) where
+  module _ (c : plain_check s work a b ≡ Ok tt) (na : Cyclic s.cells a → ⊥) (nb : Cyclic s.cells b → ⊥) where
     acyclic : (i : ℕ) → term_at s.cells top i ≡ true → (Cyclic s.cells i → ⊥) → cyclic_at s.cells top i ≡ false
     acyclic i t n =
         let u = term_used s.cells top i t in

@@ -1,11 +1,9 @@
 -- What plain and checked unification answer and leave, of any state, any work buffer and any roots.
-use Rattle.std.specs.Prelude.{true, false, not, cond, List, ℕ, ◌-◌, leb, length}
+use Rattle.std.specs.Prelude.{Bool, true, false, not, cond, List, ℕ, ◌-◌, leb, length, Ok, Err}
 use Rattle.cell.specs.declared.Refusal.TheVariants.{Root, Work, TrailRoom, Cycle}
 use Rattle.store.specs.Store.{term_at}
 use Rattle.trail.specs.Rules.{unbound_at}
-use Rattle.trail.specs.declared.Answer.{Answer}
-use Rattle.trail.specs.declared.Answer.TheVariants.{Done, Refused}
-use Rattle.trail.specs.State.{State, state_of, Outcome, done, failed, refused, check_of, need, ◌then◌}
+use Rattle.trail.specs.State.{State, state_of, Outcome, done, failed, refused, check_of, need, ◌then◌, Answer}
 use Rattle.cycle.specs.Sum.{sum_from}
 use Rattle.cycle.specs.Verdict.{cyclic_at}
 use Rattle.chains.specs.Work.{work_need, cleared}
@@ -52,8 +50,8 @@ answered s work late = (failed, s, cleared (work_need s.top) work)
 
 -- a refusal changes nothing
 abbrev pub unless_refused : Answer → State → List ℕ → Result → Result
-unless_refused Done s work r = r
-unless_refused (Refused e) s work r = (refused e, s, work)
+unless_refused (Ok tt) s work r = r
+unless_refused (Err e) s work r = (refused e, s, work)
 
 -- unify plainly
 unfoldable pub plainly : State → List ℕ → ℕ → ℕ → Result
@@ -62,3 +60,13 @@ plainly s work a b = unless_refused (plain_check s work a b) s work (answered s 
 -- unify checked
 unfoldable pub checkedly : State → List ℕ → ℕ → ℕ → Result
 checkedly s work a b = unless_refused (checked_check s work a b) s work (answered s work (unified true s a b))
+
+-- the refusals of a call: of a checked one 6 too
+abbrev pub check_by : Bool → State → List ℕ → ℕ → ℕ → Answer
+check_by false = plain_check
+check_by true = checked_check
+
+-- a call: checked or plain
+abbrev pub call_by : Bool → State → List ℕ → ℕ → ℕ → Result
+call_by false = plainly
+call_by true = checkedly

@@ -20,10 +20,10 @@ module _ (sh : Shape) (look : ℕ → View) where
     put_stays i y e n = put_not v x (look i) (λ q. n (sym e ∙ q)) ∙ e
 
     put_con : (i : ℕ) (c : Constant) → look i ≡ con c → put v x (look i) ≡ con c
-    put_con i c e = put_stays i (con c) e (λ q. let z : ◌≡◌ {A = ℕ} 0 1 = cc in omega arith)
+    put_con i c e = put_stays i (con c) e (λ q. cc)
 
     put_nod : (i n : ℕ) → look i ≡ nod n → put v x (look i) ≡ nod n
-    put_nod i n e = put_stays i (nod n) e (λ q. let z : ◌≡◌ {A = ℕ} 0 1 = cc in omega arith)
+    put_nod i n e = put_stays i (nod n) e (λ q. cc)
 
     put_other : (i w : ℕ) → (w ≡ v → ⊥) → look i ≡ free w → put v x (look i) ≡ free w
     put_other i w f e = put_stays i (free w) e (λ q. f (cc))
@@ -101,8 +101,8 @@ nth_size (more t ts) (suc k) = omega (arith, nth_size ts k)
 
 sub_size : (d : Term) (f : ℕ × ℕ) (k : ℕ) → label d ≡ functor f → size (sub d k) < size d
 unfolding size
-sub_size (variable v) f k e = let z : ◌≡◌ {A = ℕ} 0 1 = cc in absurd (omega arith)
-sub_size (constant v) f k e = let z : ◌≡◌ {A = ℕ} 0 1 = cc in absurd (omega arith)
+sub_size (variable v) f k e = cc
+sub_size (constant v) f k e = cc
 sub_size (compound g ts) f k e = omega (arith, nth_size ts k)
 
 module _ (P : ℕ → Type 0) (sh : Shape) (look : ℕ → View) (σ : ℕ → Term) (k : Solves Term label sub P sh σ look) where

@@ -8,7 +8,7 @@ use Rattle.store.specs.All.{all_from}
 use Rattle.store.specs.Store.{kind_at}
 
 -- neither a Str nor a Lis
-unfoldable pub flat_kind : Kind → Bool
+abbrev pub flat_kind : Kind → Bool
 flat_kind (Var v) = true
 flat_kind (Str v) = false
 flat_kind (Lis v) = false

@@ -64,22 +64,22 @@ module _ (s : List ℕ) (top : ℕ) (wf : WellFormed s top) where
   -- ---- what is shown
   str_not_free : (k : Kind) (f v : ℕ) → str_view f k ≡ free v → ⊥
   unfolding str_view
-  str_not_free (Var w) f v e = let z : ◌≡◌ {A = ℕ} 0 1 = cc in omega arith
-  str_not_free (Str w) f v e = let z : ◌≡◌ {A = ℕ} 0 1 = cc in omega arith
-  str_not_free (Lis w) f v e = let z : ◌≡◌ {A = ℕ} 0 1 = cc in omega arith
-  str_not_free (Atom n zero) f v e = let z : ◌≡◌ {A = ℕ} 0 1 = cc in omega arith
-  str_not_free (Atom n (suc a)) f v e = let z : ◌≡◌ {A = ℕ} 0 1 = cc in omega arith
-  str_not_free (Fixnum z) f v e = let z : ◌≡◌ {A = ℕ} 0 1 = cc in omega arith
-  str_not_free Bad f v e = let z : ◌≡◌ {A = ℕ} 0 1 = cc in omega arith
+  str_not_free (Var w) f v e = cc
+  str_not_free (Str w) f v e = cc
+  str_not_free (Lis w) f v e = cc
+  str_not_free (Atom n zero) f v e = cc
+  str_not_free (Atom n (suc a)) f v e = cc
+  str_not_free (Fixnum z) f v e = cc
+  str_not_free Bad f v e = cc
 
   pub free_var : (k : Kind) (v : ℕ) → view_kind s k ≡ free v → k ≡ Var v
   unfolding view_kind
   free_var (Var w) v e = cc
   free_var (Str f) v e = absurd (str_not_free (kind_at s f) f v e)
-  free_var (Lis w) v e = let z : ◌≡◌ {A = ℕ} 0 1 = cc in absurd (omega arith)
-  free_var (Atom n a) v e = let z : ◌≡◌ {A = ℕ} 0 1 = cc in absurd (omega arith)
-  free_var (Fixnum z) v e = let z : ◌≡◌ {A = ℕ} 0 1 = cc in absurd (omega arith)
-  free_var Bad v e = let z : ◌≡◌ {A = ℕ} 0 1 = cc in absurd (omega arith)
+  free_var (Lis w) v e = cc
+  free_var (Atom n a) v e = cc
+  free_var (Fixnum z) v e = cc
+  free_var Bad v e = cc
 
   -- a free variable is an unbound Var, and following ends at it
   pub free_end : (i v : ℕ) → 1 ≤ i → i < top → look_at s top i ≡ free v → (end_of s top i ≡ v) × (kind_at s v ≡ Var v)
@@ -90,7 +90,7 @@ module _ (s : List ℕ) (top : ℕ) (wf : WellFormed s top) where
       (q, ap (kind_at s) (sym q) ∙ k)
 
   pub free_used : (i v : ℕ) → look_at s top i ≡ free v → (1 ≤ i) × (i < top)
-  free_used i v e = ⊎_elim (λ u. u) (λ q. let z : ◌≡◌ {A = ℕ} 0 1 = cc in absurd (omega arith)) (used_or i)
+  free_used i v e = ⊎_elim (λ u. u) (λ q. cc) (used_or i)
 
   -- the view of an unbound Var
   pub var_look : (v : ℕ) → kind_at s v ≡ Var v → look_at s top v ≡ free v
@@ -110,7 +110,7 @@ module _ (s : List ℕ) (top : ℕ) (wf : WellFormed s top) where
       rw (le-leb 1 v (omega arith), lt-ltb v top (omega arith)) (ap (λ (k : Kind). not (is_header k)) f.1)
 
   pub node_used : (i n : ℕ) → look_at s top i ≡ nod n → (1 ≤ i) × (i < top)
-  node_used i n e = ⊎_elim (λ u. u) (λ q. let z : ◌≡◌ {A = ℕ} 0 1 = cc in absurd (omega arith)) (used_or i)
+  node_used i n e = ⊎_elim (λ u. u) (λ q. cc) (used_or i)
 
   -- ---- nodes
   -- the cell that shows a node has an edge to each of its arguments
@@ -118,8 +118,8 @@ module _ (s : List ℕ) (top : ℕ) (wf : WellFormed s top) where
   node_kids e n l h st q = go (shows s top wf e l h)
     where
       go : Shows s top e → (deg s e ≡ arity_of (shape_of s) n) × ((k : ℕ) → kid s e k ≡ (shape_of s).arg n k)
-      go (unbound p d) = let z : ◌≡◌ {A = ℕ} 0 1 = cc in absurd (omega arith)
-      go (plain c p d) = let z : ◌≡◌ {A = ℕ} 0 1 = cc in absurd (omega arith)
+      go (unbound p d) = cc
+      go (plain c p d) = cc
       go (node m p d a) = let z : m ≡ n = cc in (d ∙ ap (arity_of (shape_of s)) z, λ k. a k ∙ ap (λ (x : ℕ). (shape_of s).arg x k) z)
       go (bound m p d a) = absurd (m st)
 

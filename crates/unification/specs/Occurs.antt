@@ -2,7 +2,6 @@
 -- The theorems stand in proofs/Occurs.antt.
 use Rattle.std.proofs.Math.Path.{◌≡◌}
 use Rattle.std.specs.Prelude.{ℕ, ◌<◌}
-use Rattle.cycle.specs.Graph as Graph
 use Rattle.terms.specs.View.{View, free, nod, Shape, arity_of}
 
 -- the variable v lies within cell i

@@ -1,6 +1,6 @@
 -- What a machine shows, without its words: the view of each cell, the classes and the pairs; and what each act does to it. The laws of unification are proved of this.
 -- One law, `all_args`, stands in proofs/Seen.antt.
-use Rattle.std.specs.Prelude.{◌≡◌, refl, Bool, true, false, cond, List, [], ◌∷◌, ◌++◌, ℕ, ◌+◌, eqb}
+use Rattle.std.specs.Prelude.{◌≡◌, refl, Bool, true, false, cond, List, [], ◌∷◌, ◌++◌, ℕ, eqb}
 use Rattle.std.proofs.Common.{ap, eq-eqb, ne_eqb}
 use Rattle.terms.specs.View.{View, free, con, nod, Shape, arity_of, look_at}
 use Rattle.unification.specs.Machine.{Act, skip, bind, join, clash, Machine, merge, args}

@@ -37,17 +37,17 @@ sub (compound f ts) k = nth ts k
 
 -- a tree with a compound's label and a compound's arguments is that compound
 pub compound_is : (d : Term) (f : ℕ) (us : Terms) → label d ≡ functor (f, many us) → ((k : ℕ) → k < many us → sub d k ≡ nth us k) → d ≡ compound f us
-compound_is (variable v) f us e h = let z : ◌≡◌ {A = ℕ} 0 1 = cc in absurd (omega arith)
-compound_is (constant v) f us e h = let z : ◌≡◌ {A = ℕ} 0 1 = cc in absurd (omega arith)
+compound_is (variable v) f us e h = cc
+compound_is (constant v) f us e h = cc
 compound_is (compound g ws) f us e h =
     let p : ◌≡◌ {A = ℕ × ℕ} (g, many ws) (f, many us) = cc in
     let q : many ws ≡ many us = ap (λ x. x.1) p in
     ap₂ compound (ap (λ x. x.0) p) (terms_ext ws us q (λ k l. h k (omega arith)))
 
 pub constant_is : (d : Term) (c : Constant) → label d ≡ leaf c → d ≡ constant c
-constant_is (variable v) c e = let z : ◌≡◌ {A = ℕ} 0 1 = cc in absurd (omega arith)
+constant_is (variable v) c e = cc
 constant_is (constant v) c e = cc
-constant_is (compound f ts) c e = let z : ◌≡◌ {A = ℕ} 0 1 = cc in absurd (omega arith)
+constant_is (compound f ts) c e = cc
 
 -- ---- laws of instances
 pub many_insts : (ρ : ℕ → Term) (ts : Terms) → many (insts ρ ts) ≡ many ts

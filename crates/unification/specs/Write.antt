@@ -31,7 +31,7 @@ use Rattle.unification.specs.Nodes.{used_or, free_var, var_look}
 -- ---- the word of an unbound Var, and its kind
 pub var_word_lem : (w v : ℕ) → kind_of w ≡ Var v → w ≡ var_word v
 unfolding word_of_kind
-var_word_lem w v e = sym (word_back w (λ b. let z : ◌≡◌ {A = ℕ} 0 1 = cc in omega arith)) ∙ ap word_of_kind e
+var_word_lem w v e = sym (word_back w (λ b. cc)) ∙ ap word_of_kind e
 
 pub word_var : (v : ℕ) → v < limit → kind_of (var_word v) ≡ Var v
 unfolding word_of_kind Proper
@@ -159,7 +159,7 @@ module _ (s : List ℕ) (top : ℕ) (wf : WellFormed s top) (v e : ℕ) (x : Vie
   same_view j l h = go (kind_at s j) refl
     where
       not_v : (f n a : ℕ) → kind_at s f ≡ Atom n a → f ≡ v → ⊥
-      not_v f n a q z = let k : kind_at s f ≡ Var v = ap (kind_at s) z ∙ k.free_v in let y : ◌≡◌ {A = ℕ} 0 1 = cc in omega arith
+      not_v f n a q z = let k : kind_at s f ≡ Var v = ap (kind_at s) z ∙ k.free_v in cc
 
       go : (k : Kind) → kind_at s j ≡ k → view_kind new k ≡ view_kind s k
       go (Var w) q = refl

@@ -1,35 +1,24 @@
--- Counting the unbound Vars of a store cell by cell; they are at most as many as the used cells.
-use Rattle.std.specs.Prelude.{◌≡◌, Bool, true, false, cond, List, ℕ, zero, suc, ◌+◌, ◌-◌, ◌<◌, ◌≤◌}
-use native.Mathlib.Omega.{arith}
+-- The unbound Vars of a store, counted as the places that pass the test; they are at most as many as the used cells.
+use Rattle.std.specs.Prelude.{◌≡◌, refl, List, ℕ, zero, suc, ◌+◌, ◌≤◌}
+use Rattle.std.specs.List.{count_by, range_with_len}
+use Rattle.std.proofs.Common.{arith, ◌∙◌, ap, add-one}
+use Rattle.std.proofs.lemmas.List.Sums.{sum_by-cons, count_by-le-length}
+use Rattle.std.proofs.lemmas.List.FromFn.{length-range_with_len}
 use Rattle.trail.specs.Rules.{unbound_at}
-use Rattle.cycle.specs.Sum.{sum_from, sum_goes, sum_done}
+use Rattle.cycle.specs.Sum.{sum_from}
 use Rattle.unification.specs.Calls.{free_at, unbound}
 
--- those from cell i on
-abbrev pub unbound_from : List ℕ → ℕ → ℕ → ℕ
-unbound_from cells i top = sum_from i (top - i) (free_at cells)
+module _ (cells : List ℕ) where
+  counted : (n from : ℕ) → count_by (unbound_at cells) (range_with_len from n) ≡ sum_from from n (free_at cells)
+  unfolding sum_from
+  counted zero from = refl
+  counted (suc n) from = sum_by-cons (free_at cells) from (range_with_len (from + 1) n) ∙ rw add-one (ap (λ k. free_at cells from + k) (counted n (suc from)))
 
-one_at_most : (b : Bool) → cond {A = ℕ} b 1 0 ≤ 1
-one_at_most true = omega arith
-one_at_most false = omega arith
+  module _ (top : ℕ) where
+    -- all places below top
+    pub unbound_counted : count_by (unbound_at cells) (range_with_len 0 top) ≡ unbound cells top
+    unfolding unbound
+    unbound_counted = counted top 0
 
-sum_within : (f : ℕ → ℕ) → ((i : ℕ) → f i ≤ 1) → (n from : ℕ) → sum_from from n f ≤ n
-unfolding sum_from
-sum_within f h zero from = omega arith
-sum_within f h (suc n) from = omega (arith, h from, sum_within f h n (suc from))
-
-module _ (cells : List ℕ) (top : ℕ) where
-  pub unbound_within : unbound cells top ≤ top
-  unfolding unbound
-  unbound_within = sum_within (free_at cells) (λ i. one_at_most (unbound_at cells i)) top 0
-
-  -- ---- the loop that counts: none yet, one cell more, and all
-  pub count_start : unbound cells top ≡ 0 + unbound_from cells 0 top
-  unfolding unbound
-  count_start = let z : top - 0 ≡ top = omega arith in rw z (omega arith)
-
-  pub count_more : (i n k : ℕ) → i < top → k ≡ free_at cells i → unbound cells top ≡ n + unbound_from cells i top → unbound cells top ≡ n + k + unbound_from cells (i + 1) top
-  count_more i n k h q e = omega (arith, sum_goes (free_at cells) i h)
-
-  pub count_done : (i n : ℕ) → top ≤ i → unbound cells top ≡ n + unbound_from cells i top → n ≡ unbound cells top
-  count_done i n h e = omega (arith, sum_done (free_at cells) i h)
+    pub unbound_within : unbound cells top ≤ top
+    unbound_within = omega (arith, unbound_counted, count_by-le-length (unbound_at cells) (range_with_len 0 top), length-range_with_len 0 top)

@@ -1,33 +1,35 @@
 -- What a run past the refusals comes to: the plain run's ending, and for a checked call one cycle test at a root, decide between the cells that the run left and those at entry.
-use Rattle.std.specs.Prelude.{◌≡◌, Bool, not, ◌&&◌, ℕ, ◌-◌, ◌≤◌, length, get_or}
+use Rattle.std.specs.List.{list_all, slice_range}
+use Rattle.std.specs.Prelude.{◌≡◌, Bool, not, ◌&&◌, ◌||◌, ℕ, ◌-◌, ◌≤◌, length, get_or, Ok, Err}
 use Rattle.std.proofs.Math.Path.{refl, ap, subst}
 use Rattle.std.proofs.Common.{sym, ◌∙◌, arith}
 use Rattle.std.proofs.Math.Bool.{true, false}
 use Rattle.std.proofs.lemmas.Bool.{false≢true}
 use mathlib.Core.List.{List, ◌++◌}
 use Rattle.std.proofs.Math.ListN.{replicate}
-use Rattle.store.specs.Store.{limit, term_at, WellFormed}
+use Rattle.cell.specs.declared.Refusal.{Refusal}
+use Rattle.store.specs.Store.{limit, kind_at, term_at, WellFormed}
 use Rattle.store.specs.Steps.{term_used}
 use Rattle.store.specs.Zeros.{zeroed}
-use Rattle.trail.specs.declared.Answer.TheVariants.{Done}
-use Rattle.trail.specs.State.{State, state_of, Outcome, done, failed}
+use Rattle.trail.specs.State.{State, state_of, Outcome, done, failed, refused}
 use Rattle.marks.specs.Unbind.{unbind, Names}
 use Rattle.cycle.specs.Graph.{Cyclic}
 use Rattle.cycle.specs.Verdict.{cyclic_at}
 use Rattle.cycle.specs.Cyclic.{cyclic_true}
 use Rattle.chains.specs.Work.{work_need, cleared}
 use Rattle.unification.specs.Machine.{Ending, yes, clashes, occurs, late, unified}
-use Rattle.unification.specs.Calls.{Result, answered, plain_check, plainly, checkedly}
+use Rattle.unification.specs.Calls.{Result, answered, plain_check, plainly, checkedly, check_by, call_by}
 use Rattle.unification.specs.Nodes.{term_shape}
 use Rattle.unification.specs.TermOf.{finite}
 use Rattle.unification.proofs.PlainThenTest.{live_end}
-use Rattle.unification.specs.Flat.{bound_flat}
+use Rattle.unification.specs.Flat.{flat_kind, bound_flat}
 use Rattle.unification.proofs.Flat.{flat_straight}
 use Rattle.unification.specs.Asked.{Asked}
-use Rattle.unification.proofs.Asked.{asks, checked_asks, asked_store, asked_live, plain_says, checked_says, answered_yes, answered_no}
-use Rattle.unification.proofs.Theorems.{plain_then_yes, plain_then_cycle, plain_then_no}
+use Rattle.unification.proofs.Asked.{asked, asks, checked_asked, checked_asks, asked_store, asked_live, plain_says, checked_says, answered_yes, answered_no}
+use Rattle.unification.proofs.Theorems.{plain_refused, checked_refused, plain_then_yes, plain_then_cycle, plain_then_no}
 use Rattle.unify.specs.Internal.{lent, Begins, Ended, Left}
 use Rattle.unifier.specs.Undone.{new_names, cells_back, trail_back, rest_kept}
+use Rattle.unifier.specs.Named.{named_flat}
 
 -- neither root reaches a cycle
 abbrev Straight : State → ℕ → ℕ → Type 0
@@ -43,7 +45,7 @@ module _ (checked : Bool) (s : State) (work : List ℕ) (a b : ℕ) (p : Passed 
   begins = let k = p.asked in record { store = asked_store s work a b k; left = k.left; right = k.right; wide = k.wide; room = k.room }
 
   -- ---- the two calls, by the run that each makes
-  passes : plain_check s work a b ≡ Done
+  passes : plain_check s work a b ≡ Ok tt
   passes = asks s work a b p.asked
 
   plain_is : {r : Result} → answered s work (unified false s a b) ≡ r → plainly s work a b ≡ r
@@ -102,16 +104,16 @@ module _ (checked : Bool) (s : State) (work : List ℕ) (a b : ℕ) (p : Passed 
         answered_yes s work a b (unified false s a b) m h ∙ λ i. (done 0, state_of (c i) s.top (t i) (n i) s.marks s.marked, cleared (work_need s.top) work)
 
     plain_undone : Ended s a b cells trail trailed false → answered s work (unified false s a b) ≡ undone
-    plain_undone h = answered_no s work a b (unified false s a b) (λ m e. let z : ◌≡◌ {A = ℕ} 0 1 = cc in omega arith)
+    plain_undone h = answered_no s work a b (unified false s a b) (λ m e. cc)
 
     -- the test after the run, where the call is checked
-    abbrev accepts : Bool
+    abbrev pub accepts : Bool
     accepts = ok && not (checked && cyclic_at cells s.top a)
 
     -- it did not reach one before, so the test may be left out where no variable was bound to a Str or a Lis
-    pub still_accepts : {v : Bool} → v ≡ (ok && not (checked && not (bound_flat cells trail s.trailed trailed) && cyclic_at cells s.top a)) → v ≡ accepts
+    pub still_accepts : {v : Bool} → v ≡ (not checked || list_all (λ e. flat_kind (kind_at cells e)) (slice_range trail s.trailed trailed) || not (cyclic_at cells s.top a)) → (ok && v) ≡ accepts
     unfolding unified
-    still_accepts e = e ∙ go checked ok p.acyclic l.ended (bound_flat cells trail s.trailed trailed) refl
+    still_accepts e = rw (e, named_flat trail undoable.0 cells) (go checked ok p.acyclic l.ended (bound_flat cells trail s.trailed trailed) refl)
       where
         straight : cyclic_at s.cells s.top a ≡ false → Ended s a b cells trail trailed true → bound_flat cells trail s.trailed trailed ≡ true → cyclic_at cells s.top a ≡ false
         straight q (m, h, c, t, n) f =
@@ -120,7 +122,7 @@ module _ (checked : Bool) (s : State) (work : List ℕ) (a b : ℕ) (p : Passed 
             let o = finite s.cells s.top wf a k.left q in
             subst (λ (x : List ℕ). cyclic_at x s.top a ≡ false) c (flat_straight s wf a b (asked_live s work a b k) m h (rw (c, t, n) f) a k.left o.term o.stands)
 
-        go : (c ok : Bool) → (c ≡ true → Straight s a b) → Ended s a b cells trail trailed ok → (x : Bool) → bound_flat cells trail s.trailed trailed ≡ x → (ok && not (c && not x && cyclic_at cells s.top a)) ≡ (ok && not (c && cyclic_at cells s.top a))
+        go : (c ok : Bool) → (c ≡ true → Straight s a b) → Ended s a b cells trail trailed ok → (x : Bool) → bound_flat cells trail s.trailed trailed ≡ x → (ok && (not c || x || not (cyclic_at cells s.top a))) ≡ (ok && not (c && cyclic_at cells s.top a))
         go c false q h x f = refl
         go false true q h x f = refl
         go true true q h false f = refl
@@ -150,17 +152,17 @@ module _ (checked : Bool) (s : State) (work : List ℕ) (a b : ℕ) (p : Passed 
       left_words : work'' ≡ cleared (work_need s.top) work
       left_words = zero ∙ ap (λ (k : ℕ). cleared k work') size ∙ words
 
-      pub settled_yes : (v : Bool) → v ≡ accepts → v ≡ true → (done 0, state_of cells s.top trail trailed s.marks s.marked, work'') ≡ answered s work (unified checked s a b)
-      settled_yes v e t = (λ i. (done 0, state_of cells s.top trail trailed s.marks s.marked, left_words i)) ∙ sym (ends_kept (sym e ∙ t))
+      pub settled_yes : accepts ≡ true → (done 0, state_of cells s.top trail trailed s.marks s.marked, work'') ≡ answered s work (unified checked s a b)
+      settled_yes t = (λ i. (done 0, state_of cells s.top trail trailed s.marks s.marked, left_words i)) ∙ sym (ends_kept t)
 
       -- and no undoes it
-      pub settled_no : (v : Bool) → v ≡ accepts → v ≡ false → (back entries : List ℕ) → back ≡ unbind trail s.trailed (trailed - s.trailed) cells → entries ≡ zeroed s.trailed trail → (failed, state_of back s.top entries s.trailed s.marks s.marked, work'') ≡ answered s work (unified checked s a b)
-      settled_no v e f back entries cb tb =
+      pub settled_no : accepts ≡ false → (back entries : List ℕ) → back ≡ unbind trail s.trailed (trailed - s.trailed) cells → entries ≡ zeroed s.trailed trail → (failed, state_of back s.top entries s.trailed s.marks s.marked, work'') ≡ answered s work (unified checked s a b)
+      settled_no f back entries cb tb =
           let h = (asked_store s work a b p.asked).room in
           let z = l.wrote.cells_size in
           let q = cells_back s cells trail trailed l.wrote (omega arith) back cb in
           let r = trail_back s cells trail trailed l.wrote p.asked.held.trail_good_lem.rest entries tb in
-          (λ i. (failed, state_of (q i) s.top (r i) s.trailed s.marks s.marked, left_words i)) ∙ sym (ends_undone (sym e ∙ f))
+          (λ i. (failed, state_of (q i) s.top (r i) s.trailed s.marks s.marked, left_words i)) ∙ sym (ends_undone f)
 
 -- ---- the marks, in which a run has no part
 -- a result with these marks
@@ -196,3 +198,17 @@ module _ (checked : Bool) (s : State) (work : List ℕ) (a b : ℕ) where
   pub settled_beside : (o : Outcome) (cells trail : List ℕ) (trailed : ℕ) (work' : List ℕ) → (o, lent cells s.top trail trailed, work') ≡ answered bare work (unified checked bare a b) → (o, state_of cells s.top trail trailed s.marks s.marked, work') ≡ answered s work (unified checked s a b)
   unfolding unified
   settled_beside o cells trail trailed work' e = ap (beside s.marks s.marked) e ∙ answered_beside (unified checked s a b)
+
+-- ---- a call of either kind, by its check
+module _ (s : State) (work : List ℕ) (a b : ℕ) where
+  pub check_passes : (checked : Bool) → check_by checked s work a b ≡ Ok tt → Passed checked s work a b
+  check_passes false c = record { asked = asked s work a b c; acyclic = λ e. absurd (false≢true e) }
+  check_passes true c = let k = checked_asked s work a b c in record { asked = k.0; acyclic = λ _. (k.1, k.2) }
+
+  pub call_says : (checked : Bool) → check_by checked s work a b ≡ Ok tt → call_by checked s work a b ≡ answered s work (unified checked s a b)
+  call_says false c = plain_says s work a b c
+  call_says true c = checked_says s work a b c
+
+  pub call_refuses : (checked : Bool) (e : Refusal) → check_by checked s work a b ≡ Err e → (refused e, s, work) ≡ call_by checked s work a b
+  call_refuses false e c = sym (plain_refused s work a b e c)
+  call_refuses true e c = sym (checked_refused s work a b e c)

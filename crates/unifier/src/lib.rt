@@ -1,121 +1,61 @@
-// Unification of two cells' terms, plain and checked, of any words, counts and roots: the refusals
-// first, then one run, and after "no unifier" everything as it was.
+// Unification of two cells' terms, plain or with the occurs check, of any words, counts and roots: the
+// refusals first, then one run, and after "no unifier" everything as it was.
 #![tactic(auto)]
 
-ghost use Rattle.std.specs.Prelude.{◌≡◌, true, not, ◌&&◌, ℕ, ◌-◌, ◌<◌, ◌≤◌, leb, length, get_or};
-ghost use Rattle.store.specs.Store.{limit, kind_at, term_at, WellFormed};
+ghost use Rattle.std.specs.Prelude.{◌≡◌, true, not, ◌||◌, ℕ, ◌-◌, ◌<◌, ◌≤◌, leb, length, get_or, Ok};
+ghost use Rattle.std.specs.List.{All, list_all, count_by, range_with_len};
+ghost use Rattle.store.specs.Store.{limit, kind_at, term_at};
 ghost use Rattle.store.specs.Zeros.{zeroed};
-ghost use Rattle.trail.specs.State.{state_of};
+ghost use Rattle.trail.specs.Rules.{unbound_at};
+ghost use Rattle.trail.specs.State.{state_of, said_yes};
 ghost use Rattle.marks.specs.Unbind.{unbind, Names};
 ghost use Rattle.cycle.specs.Verdict.{cyclic_at};
 ghost use Rattle.unification.specs.Machine.{unified};
-ghost use Rattle.unification.specs.Calls.{free_at, unbound, plain_check, checked_check, answered, plainly, checkedly};
-ghost use Rattle.unification.specs.Flat.{flat_kind, bound_flat};
+ghost use Rattle.unification.specs.Calls.{unbound, answered, check_by, call_by};
+ghost use Rattle.unification.specs.Flat.{flat_kind};
 ghost use Rattle.unify.specs.Internal.{lent};
-ghost use Rattle.unifier.specs.Answers.{said_of};
 ghost use Rattle.unifier.specs.Settling.{Passed};
 
 use cell::{Kind, Refusal};
-use trail::Answer;
-
-// What the two calls answer.
-#[derive(Clone, Copy)]
-pub enum Unified {
-    Yes,
-    No,
-    Refused(Refusal),
-}
-
-// 1 for an unbound Var.
-fn free_at(cells: &[u64], i: usize) -> usize
-    requires { (i < limit) × (i < length cells.now) }
-    ensures { (result ≡ free_at cells.now i) × (result ≤ 1) }
-{
-    let w = cells[i];
-    let v = cell::var_word(i);
-    if w == v { 1 } else { 0 }
-}
+use store::{Cells, Store};
+use trail::State;
 
 // How many of the used cells are unbound Vars.
-fn count_unbound(cells: &[u64], top: usize) -> usize
-    requires { (top ≤ limit) × (top ≤ length cells.now) }
-    ensures { result ≡ unbound cells.now top }
+fn count_unbound(cells: Cells) -> usize
+    ensures { result ≡ count_by (unbound_at cells.entry.words.now) (range_with_len 0 cells.entry.top) }
 {
-    let mut n: usize = 0;
-    let mut i: usize = 0;
-    while i < top {
-        n += free_at(cells, i);
-        i += 1;
-    }
-    n
+    (0..cells.top)
+        .filter(|i| cells.words[*i] == cell::var_word(*i))
+        .count()
 }
 
 // Whether the free trail entries are as many as the unbound Vars, which are counted only where there
 // are fewer entries than used cells.
-fn trail_room(cells: &[u64], top: usize, free: usize) -> bool
-    requires { (top ≤ limit) × (top ≤ length cells.now) }
-    ensures { result ≡ leb (unbound cells.now top) free }
+fn trail_room(cells: Cells, free: usize) -> bool
+    ensures { result ≡ leb (unbound cells.entry.words.now cells.entry.top) free }
 {
-    if top <= free {
-        return true;
-    }
-    count_unbound(cells, top) <= free
+    cells.top <= free || count_unbound(cells) <= free
 }
 
-// Why plain unification is refused: 1, 2, 3, 4 or 5; or done.
-fn plain_check(
-    cells: &[u64],
-    top: usize,
-    trail: &[u64],
-    trailed: usize,
-    marks: &[u64],
-    marked: usize,
-    work: &[u64],
-    a: usize,
-    b: usize,
-) -> Answer
-    ensures { result ≡ plain_check (state_of cells.now top trail.now trailed marks.now marked) work.now a b }
+// Whether a call is refused: by 1, 2, 3, 4 or 5, or a checked one by 6.
+fn check(state: &State, work: &[u64], a: usize, b: usize, checked: bool) -> Result<(), Refusal>
+    ensures { result ≡ check_by checked state.now work.now a b }
 {
-    if let Answer::Refused(r) = trail::check(cells, top, trail, trailed, marks, marked) {
-        return Answer::Refused(r);
+    let store = state.check()?;
+    let cells = store.cells;
+    if !cells.term_at(a) || !cells.term_at(b) {
+        return Err(Refusal::Root);
     }
-    if !store::term_at(cells, top, a) {
-        return Answer::Refused(Refusal::Root);
+    if work.len() < chains::work_need(cells.top) {
+        return Err(Refusal::Work);
     }
-    if !store::term_at(cells, top, b) {
-        return Answer::Refused(Refusal::Root);
+    if !trail_room(cells, state.trail.len() - state.trailed) {
+        return Err(Refusal::TrailRoom);
     }
-    if work.len() < chains::work_need(top) {
-        return Answer::Refused(Refusal::Work);
+    if checked && cycle::either_cyclic(store, a, b) {
+        return Err(Refusal::Cycle);
     }
-    if !trail_room(cells, top, trail.len() - trailed) {
-        return Answer::Refused(Refusal::TrailRoom);
-    }
-    Answer::Done
-}
-
-// Why checked unification is refused: the same, or 6; or done.
-fn checked_check(
-    cells: &[u64],
-    top: usize,
-    trail: &[u64],
-    trailed: usize,
-    marks: &[u64],
-    marked: usize,
-    work: &[u64],
-    a: usize,
-    b: usize,
-) -> Answer
-    ensures { result ≡ checked_check (state_of cells.now top trail.now trailed marks.now marked) work.now a b }
-{
-    let plain = plain_check(cells, top, trail, trailed, marks, marked, work, a, b);
-    if let Answer::Refused(lower) = plain {
-        return Answer::Refused(lower);
-    }
-    if cycle::either_cyclic(cells, top, a, b) {
-        return Answer::Refused(Refusal::Cycle);
-    }
-    Answer::Done
+    Ok(())
 }
 
 // Whether a cell holds neither a Str nor a Lis.
@@ -123,53 +63,25 @@ fn flat_at(cells: &[u64], i: usize) -> bool
     requires { i < length cells.now }
     ensures { result ≡ flat_kind (kind_at cells.now i) }
 {
-    match store::kind_at(cells, i) {
-        Kind::Str(_) => false,
-        Kind::Lis(_) => false,
-        _ => true,
-    }
+    !matches!(store::kind_at(cells, i), Kind::Str(_) | Kind::Lis(_))
 }
 
-// Whether the cells that the trail names from a place to another hold neither a Str nor a Lis.
-fn bound_flat(cells: &[u64], trail: &[u64], from: usize, to: usize) -> bool
-    requires { Names trail.now from to (length cells.now) }
-    ensures { result ≡ bound_flat cells.now trail.now from to }
+// Whether no cell of these holds a Str or a Lis.
+fn all_flat(cells: &[u64], named: &[u64]) -> bool
+    requires { All (λ e. e < length cells.now) named.now }
+    ensures { result ≡ list_all (λ e. flat_kind (kind_at cells.now e)) named.now }
 {
-    let mut i = from;
-    while i < to {
-        if !flat_at(cells, trail[i] as usize) {
-            return false;
-        }
-        i += 1;
-    }
-    true
+    named.iter().all(|e| flat_at(cells, *e as usize))
 }
 
-// Whether the answer is yes: of a checked call only where the root reaches no cycle after the run.
-// It did not before, so there is nothing to test where no variable was bound to a Str or a Lis.
-fn accepted(
-    cells: &[u64],
-    top: usize,
-    trail: &[u64],
-    from: usize,
-    to: usize,
-    a: usize,
-    ok: bool,
-    checked: bool,
-) -> bool
-    requires { (ok ≡ true → WellFormed cells.now top × (term_at cells.now top a ≡ true)) × Names trail.now from to (length cells.now) }
-    ensures { result ≡ (ok && not (checked && not (bound_flat cells.now trail.now from to) && cyclic_at cells.now top a)) }
+// Whether a run that said yes has found a unifier: of a checked call, whether the root reaches no cycle
+// after it. It did not before, so there is nothing to test where no variable was bound to a Str or a Lis.
+fn accepted(store: Store, named: &[u64], root: usize, checked: bool) -> bool
+    requires root { term_at store.cells.words.now store.cells.top root ≡ true }
+    requires named { All (λ e. e < length store.cells.words.now) named.now }
+    ensures { result ≡ (not checked || list_all (λ e. flat_kind (kind_at store.entry.cells.words.now e)) named.now || not (cyclic_at store.entry.cells.words.now store.entry.cells.top root)) }
 {
-    if !ok {
-        return false;
-    }
-    if !checked {
-        return true;
-    }
-    if bound_flat(cells, trail, from, to) {
-        return true;
-    }
-    !cycle::cyclic(cells, top, a)
+    !checked || all_flat(store.cells.words, named) || !cycle::cyclic(store, root)
 }
 
 // The bindings that are trailed from a place to another are taken back.
@@ -192,24 +104,29 @@ fn settle(
     a: usize,
     b: usize,
     checked: bool,
-) -> Unified
+) -> bool
     requires { Passed checked (lent cells.old top trail.old trailed.old) work.old a b }
-    ensures { (said_of result, lent cells.new top trail.new trailed.new, work.new) ≡ answered (lent cells.old top trail.old trailed.old) work.old (unified checked (lent cells.old top trail.old trailed.old) a b) }
+    ensures { (said_yes (Ok result), lent cells.new top trail.new trailed.new, work.new) ≡ answered (lent cells.old top trail.old trailed.old) work.old (unified checked (lent cells.old top trail.old trailed.old) a b) }
 {
     let from = *trailed;
-    let run = unify::unify_internal(cells, top, trail, from, work, a, b);
-    let to = run.trailed;
+    let ok = unify::unify_internal(cells, top, trail, trailed, work, a, b);
+    let to = *trailed;
     let n = chains::work_need(top);
     chains::clear(work, n);
-    if accepted(cells, top, trail, from, to, a, run.ok, checked) {
-        *trailed = to;
-        return Unified::Yes;
+    if ok {
+        let cells = Cells { words: cells, top };
+        if accepted(Store { cells }, &trail[from..to], a, checked) {
+            return true;
+        }
     }
     undo(cells, trail, from, to);
-    Unified::No
+    *trailed = from;
+    false
 }
 
-// Unifies the terms of the cells `a` and `b` plainly; refusals 1, 2, 3, 4 and 5.
+// Unifies the terms of the cells `a` and `b`, with the occurs check where the call is checked: whether
+// there is a unifier; refusals 1, 2, 3, 4 and 5, and of a checked call 6. The buffers and the counts come
+// one by one, as C lends them.
 pub fn unify(
     cells: &mut [u64],
     top: usize,
@@ -220,33 +137,18 @@ pub fn unify(
     work: &mut [u64],
     a: usize,
     b: usize,
-) -> Unified
-    ensures { (said_of result, state_of cells.new top trail.new trailed.new marks.now marked, work.new) ≡ plainly (state_of cells.old top trail.old trailed.old marks.now marked) work.old a b }
+    checked: bool,
+) -> Result<bool, Refusal>
+    ensures { (said_yes result, state_of cells.new top trail.new trailed.new marks.now marked, work.new) ≡ call_by checked (state_of cells.old top trail.old trailed.old marks.now marked) work.old a b }
 {
-    let t = *trailed;
-    if let Answer::Refused(r) = plain_check(cells, top, trail, t, marks, marked, work, a, b) {
-        return Unified::Refused(r);
-    }
-    settle(cells, top, trail, trailed, work, a, b, false)
-}
-
-// Unifies them with the occurs check; refusals 1, 2, 3, 4, 5 and 6.
-pub fn unify_with_occurs_check(
-    cells: &mut [u64],
-    top: usize,
-    trail: &mut [u64],
-    trailed: &mut usize,
-    marks: &[u64],
-    marked: usize,
-    work: &mut [u64],
-    a: usize,
-    b: usize,
-) -> Unified
-    ensures { (said_of result, state_of cells.new top trail.new trailed.new marks.now marked, work.new) ≡ checkedly (state_of cells.old top trail.old trailed.old marks.now marked) work.old a b }
-{
-    let t = *trailed;
-    if let Answer::Refused(r) = checked_check(cells, top, trail, t, marks, marked, work, a, b) {
-        return Unified::Refused(r);
-    }
-    settle(cells, top, trail, trailed, work, a, b, true)
+    let state = State {
+        cells,
+        top,
+        trail,
+        trailed: *trailed,
+        marks,
+        marked,
+    };
+    check(&state, work, a, b, checked)?;
+    Ok(settle(cells, top, trail, trailed, work, a, b, checked))
 }

@@ -3,8 +3,8 @@ use Rattle.std.proofs.Math.Path.{◌≡◌, refl, sym, ap, subst}
 use Rattle.std.proofs.Common.{◌∙◌, arith}
 use Rattle.std.specs.Prelude.{Bool, false, ◌&&◌, List, eqb, leb, ℤ}
 use Rattle.std.proofs.Math.Bool.{true, false≢true, and-eq-true_iff}
-use Prim.Native.Nat.{ℕ, zero, suc, ◌+◌, ◌<◌}
-use Rattle.std.proofs.Math.Decide.{ℕ_discrete}
+use Prim.Native.Nat.{ℕ, zero, suc, ◌+◌, min, max, ◌<◌}
+use Rattle.std.proofs.Math.Decide.{ℕ_discrete, dec_lt}
 use Rattle.std.proofs.Math.Dec.{ltb}
 use borrow.Author.Tests.{eqb-true, eq-eqb, ne_eqb, ltb-true}
 use Rattle.cell.specs.declared.Kind.{Kind}
@@ -19,7 +19,7 @@ use Rattle.unification.specs.Cases.{Apart, cc, cn, nc, nn}
 use Rattle.unification.proofs.Cases.{higher_bound}
 use Rattle.unification.specs.Nodes.{free_var}
 use Rattle.unify.specs.declared.Act.{Act}
-use Rattle.unify.specs.Decided.{Two, AtomCell, is_dot, atom_named, Binding, Nodes, Decided}
+use Rattle.unify.specs.Decided.{Two, AtomCell, is_dot, atom_named, agreed, Binding, Nodes, Decided}
 
 -- ---- reading an Atom cell
 pub no_atom_lem : {cells : List ℕ} {f : ℕ} {k : Kind} → AtomCell cells f → k ≡ kind_at cells f → ((n a : ℕ) → k ≡ Atom n a → ⊥) → ⊥
@@ -29,14 +29,6 @@ both : (x y : Bool) → (x && y) ≡ true → (x ≡ true) × (y ≡ true)
 both x y e = (and-eq-true_iff x y).0 e
 
 module _ {k : Kind} {n a : ℕ} (e : k ≡ Atom n a) where
-  pub dot_named : n ≡ dot.0 → eqb a dot.1 ≡ is_dot k
-  unfolding is_dot
-  dot_named q = rw (e, is_dot, eq-eqb n dot.0 q)
-
-  pub dot_other : (n ≡ dot.0 → ⊥) → false ≡ is_dot k
-  unfolding is_dot
-  dot_other q = rw (e, is_dot, ne_eqb n dot.0 q)
-
   pub is_dot_lem : is_dot k ≡ true → (n ≡ dot.0) × (a ≡ dot.1)
   unfolding is_dot
   is_dot_lem h = let z = both (eqb n dot.0) (eqb a dot.1) (sym (ap is_dot e) ∙ h) in (eqb-true n dot.0 z.0, eqb-true a dot.1 z.1)
@@ -49,10 +41,6 @@ module _ {k : Kind} {n a : ℕ} (e : k ≡ Atom n a) where
     pub atom_named_lem : n ≡ m → eqb a 0 ≡ atom_named m k
     unfolding atom_named
     atom_named_lem q = rw (e, atom_named, eq-eqb n m q)
-
-    pub atom_other : (n ≡ m → ⊥) → false ≡ atom_named m k
-    unfolding atom_named
-    atom_other q = rw (e, atom_named, ne_eqb n m q)
 
     pub is_atom_lem : atom_named m k ≡ true → (n ≡ m) × (a ≡ 0)
     unfolding atom_named
@@ -110,10 +98,6 @@ module _ (cells : List ℕ) (s : ℕ) {n a : ℕ} (e : kind_at cells s ≡ Atom 
         | yes z ↦ rw (view_atom z) (cc (atom n) c (λ q. d (sym q) z))
         | no z ↦ rw (view_node z).0 (nc s c)
       ]
-
--- two Str cells
-pub functors_same : (cells : List ℕ) {s t : ℕ} → s ≡ t → view_kind cells (Str s) ≡ view_kind cells (Str t)
-functors_same cells e = ap (λ (x : ℕ). view_kind cells (Str x)) e
 
 module _ (cells : List ℕ) (s t : ℕ) {n a m b : ℕ} (e : kind_at cells s ≡ Atom n a) (g : kind_at cells t ≡ Atom m b) where
   pub functors_apart : (n ≡ m → a ≡ b → ⊥) → Apart (shape_of cells) (view_kind cells (Str s)) (view_kind cells (Str t))
@@ -199,10 +183,6 @@ module _ {cells : List ℕ} {a : ℕ} {j : Kind} {b : ℕ} {k : Kind} (t : Two c
 
 -- ---- an unbound Var first
 module _ {cells : List ℕ} {v b : ℕ} {k : Kind} (t : Two cells v (Var v) b k) where
-  pub vars_same : {w : ℕ} → k ≡ Var w → v ≡ w → view_kind cells (Var v) ≡ view_kind cells k
-  unfolding view_kind
-  vars_same e q = ap free q ∙ sym (ap (view_kind cells) e)
-
   module _ {w : ℕ} (e : k ≡ Var w) where
     shown : (sh : Shape) (classes : ℕ → ℕ) → rule sh classes (view_kind cells (Var v)) (view_kind cells k) ≡ rule sh classes (free v) (free w)
     unfolding view_kind
@@ -214,6 +194,13 @@ module _ {cells : List ℕ} {v b : ℕ} {k : Kind} (t : Two cells v (Var v) b k)
 
     pub vars_high : w < v → Binding (view_kind cells (Var v)) (view_kind cells k) v b v w
     vars_high h = record { shows = free w; rules = λ sh classes. shown sh classes ∙ (higher_bound sh classes w v h).1; from = sym (rw (eq-eqb v v refl) (right_var t e)) }
+
+    pub vars_higher : (v ≡ w → ⊥) → {high low : ℕ} → high ≡ max v w → low ≡ min v w → Binding (view_kind cells (Var v)) (view_kind cells k) v b high low
+    vars_higher n {high} {low} p q =
+        elim (dec_lt v w) [
+          | yes h ↦ (let x : high ≡ w = omega arith in let y : low ≡ v = omega arith in rw (x, y) (vars_low h))
+          | no h ↦ (let g : w < v = omega arith in let x : high ≡ v = omega arith in let y : low ≡ w = omega arith in rw (x, y) (vars_high g))
+        ]
 
   -- any other cell
   pub var_other : ((w : ℕ) → k ≡ Var w → ⊥) → Binding (view_kind cells (Var v)) (view_kind cells k) v b v b
@@ -241,9 +228,6 @@ module _ {cells : List ℕ} {a s b : ℕ} {k : Kind} (t : Two cells a (Str s) b 
 
   abbrev arity : ℕ
   arity = str_cell.arity
-
-  pub str_var : {v : ℕ} → k ≡ Var v → Binding X (view_kind cells k) a b v a
-  str_var e = bind_right t (λ w q. let z : ◌≡◌ {A = ℕ} 0 1 = Prim.cc in omega arith) e
 
   pub str_pair : {l : ℕ} → k ≡ Lis l → is_dot (kind_at cells s) ≡ true → Nodes cells X (view_kind cells k) s l (s + 1) l dot.1
   str_pair e d =
@@ -308,12 +292,6 @@ module _ {cells : List ℕ} {a l b : ℕ} {k : Kind} (t : Two cells a (Lis l) b 
   pair : (view_kind cells (Lis l) ≡ nod l) × ((shape_of cells).fun l ≡ dot) × (behind (kind_at cells l) ≡ 0)
   pair = right_pair (swapped t) refl
 
-  pub lis_var : {v : ℕ} → k ≡ Var v → Binding (view_kind cells (Lis l)) (view_kind cells k) a b v a
-  lis_var e = bind_right t (λ w q. let z : ◌≡◌ {A = ℕ} 0 1 = Prim.cc in omega arith) e
-
-  pub lis_same : {m : ℕ} → k ≡ Lis m → l ≡ m → view_kind cells (Lis l) ≡ view_kind cells k
-  lis_same e q = ap (λ (x : ℕ). view_kind cells (Lis x)) q ∙ sym (ap (view_kind cells) e)
-
   pub lis_pair : {m : ℕ} → k ≡ Lis m → Nodes cells (view_kind cells (Lis l)) (view_kind cells k) l m l m dot.1
   lis_pair e =
       let p = right_pair t e in
@@ -356,9 +334,6 @@ module _ {cells : List ℕ} {a l b : ℕ} {k : Kind} (t : Two cells a (Lis l) b 
 
 -- ---- an atom first
 module _ {cells : List ℕ} {a n x b : ℕ} {k : Kind} (t : Two cells a (Atom n x) b k) where
-  pub atom_var : {v : ℕ} → k ≡ Var v → Binding (view_kind cells (Atom n x)) (view_kind cells k) a b v a
-  atom_var e = bind_right t (λ w q. let z : ◌≡◌ {A = ℕ} 0 1 = Prim.cc in omega arith) e
-
   pub atoms_same : {m y : ℕ} → k ≡ Atom m y → n ≡ m → view_kind cells (Atom n x) ≡ view_kind cells k
   unfolding view_kind
   atoms_same e q = ap (λ (i : ℕ). con (atom i)) q ∙ sym (ap (view_kind cells) e)
@@ -388,9 +363,6 @@ module _ {cells : List ℕ} {a n x b : ℕ} {k : Kind} (t : Two cells a (Atom n 
 
 -- ---- a number first
 module _ {cells : List ℕ} {a : ℕ} {n : ℤ} {b : ℕ} {k : Kind} (t : Two cells a (Fixnum n) b k) where
-  pub number_var : {v : ℕ} → k ≡ Var v → Binding (view_kind cells (Fixnum n)) (view_kind cells k) a b v a
-  number_var e = bind_right t (λ w q. let z : ◌≡◌ {A = ℕ} 0 1 = Prim.cc in omega arith) e
-
   pub numbers_same : {m : ℤ} → k ≡ Fixnum m → n ≡ m → view_kind cells (Fixnum n) ≡ view_kind cells k
   unfolding view_kind
   numbers_same e q = ap (λ (i : ℤ). con (number i)) q ∙ sym (ap (view_kind cells) e)
@@ -410,6 +382,11 @@ module _ {cells : List ℕ} {a : ℕ} {n : ℤ} {b : ℕ} {k : Kind} (t : Two ce
       by (Atom m y) e = cc (number n) (atom m) (λ q. let y : ◌≡◌ {A = ℕ} 0 1 = Prim.cc in omega arith)
       by (Fixnum z) e = absurd (no_number z e)
       by Bad e = absurd (not_bad t e)
+
+-- ---- two constants
+pub agree_lem : (cells : List ℕ) (a : ℕ) (j : Kind) (b : ℕ) (k : Kind) (same : Bool) (act : Act) → act ≡ agreed same → (same ≡ true → view_kind cells j ≡ view_kind cells k) → (same ≡ false → Apart (shape_of cells) (view_kind cells j) (view_kind cells k)) → Decided cells a j b k act
+agree_lem cells a j b k true act e p q = subst (Decided cells a j b k) (sym e) (p refl)
+agree_lem cells a j b k false act e p q = subst (Decided cells a j b k) (sym e) (q refl)
 
 -- ---- by the kind of the first
 module _ {cells : List ℕ} {a : ℕ} {j : Kind} {b : ℕ} {k : Kind} (t : Two cells a j b k) where

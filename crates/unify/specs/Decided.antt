@@ -1,5 +1,5 @@
 -- What the code decides of two followed cells, by their kinds. specs/Arms.antt proves that the rules of unification say so.
-use Rattle.std.specs.Prelude.{◌≡◌, Bool, false, ◌&&◌, List, ℕ, ◌+◌, ◌<◌, ◌≤◌, eqb, length}
+use Rattle.std.specs.Prelude.{◌≡◌, Bool, true, false, ◌&&◌, List, ℕ, ◌+◌, ◌<◌, ◌≤◌, eqb, length}
 use Rattle.cell.specs.declared.Kind.{Kind}
 use Rattle.cell.specs.declared.Kind.TheVariants.{Var, Str, Lis, Atom, Fixnum, Bad}
 use Rattle.store.specs.Store.{limit, kind_at, step, WellFormed}
@@ -23,6 +23,13 @@ pub record Two (cells : List ℕ) (a : ℕ) (j : Kind) (b : ℕ) (k : Kind) : Ty
   pub store : WellFormed cells top
   pub left : Stays cells top a j
   pub right : Stays cells top b k
+
+-- the kinds of two followed cells, of which the second is no Var
+pub record Kinds (cells : List ℕ) (j k : Kind) : Type 0 where
+  pub a : ℕ
+  pub b : ℕ
+  pub two : Two cells a j b k
+  pub no_var : (v : ℕ) → k ≡ Var v → ⊥
 
 -- an Atom cell that a Str names
 pub record AtomCell (cells : List ℕ) (f : ℕ) : Type 0 where
@@ -51,6 +58,11 @@ atom_named m (Fixnum z) = false
 atom_named m Bad = false
 
 -- ---- what is decided
+-- of two constants, which are the same or not
+abbrev pub agreed : Bool → Act
+agreed true = Skip
+agreed false = Clash
+
 -- the unbound Var v is bound, and gets the word of the other cell
 pub record Binding (X Y : View) (a b v e : ℕ) : Type 0 where
   pub shows : View
@@ -70,5 +82,5 @@ pub record Nodes (cells : List ℕ) (X Y : View) (n m left right arity : ℕ) : 
 abbrev pub Decided : List ℕ → ℕ → Kind → ℕ → Kind → Act → Type 0
 Decided cells a j b k Skip = view_kind cells j ≡ view_kind cells k
 Decided cells a j b k (Bind v e) = Binding (view_kind cells j) (view_kind cells k) a b v e
-Decided cells a j b k (Join n m left right arity) = Nodes cells (view_kind cells j) (view_kind cells k) n m left right arity
+Decided cells a j b k (Join q) = Nodes cells (view_kind cells j) (view_kind cells k) q.n q.m q.left q.right q.arity
 Decided cells a j b k Clash = Apart (shape_of cells) (view_kind cells j) (view_kind cells k)

@@ -22,6 +22,7 @@ use Rattle.unification.specs.Live.{Live}
 use Rattle.unification.proofs.Live.{not_stopped, to, term_a, term_b, CaseHere, case_here, bound, live_step, turn_skip, turn_join, turn_clash, turn_bind}
 use Rattle.unify.specs.declared.Act.{Act as Deed}
 use Rattle.unify.specs.declared.Act.TheVariants.{Skip, Bind, Join, Clash}
+use Rattle.unify.specs.declared.Compounds.{Compounds}
 use Rattle.unify.specs.Internal.{lent}
 use Rattle.unify.specs.Layout.{hops_of, pair_at, standing, standing_same, length_standing, row}
 use Rattle.unify.specs.Following.{Followed}
@@ -368,12 +369,12 @@ module _ {top : ℕ} {cells trail work : List ℕ} {n m : ℕ} {w : List ℕ} (s
     pub went_bind : {cells' trail' : List ℕ} → cells' ≡ set cells v (get_or cells e 0) → trail' ≡ set trail m v → Went top (holds cells trail work (suc n) m) true (holds cells' trail' w n (m + 1))
     went_bind ec et = record { next = λ c f g. rw (ec, et) (go_bind c top f cells trail work n m g w size l.followed v e (decided_as l (Bind v e) is)) }
 
-  module _ {x y first second arity : ℕ} (is : act ≡ Join x y first second arity) where
-    pub join_asks : Ready top (holds cells trail work (suc n) m) → Meets w top n x y first second arity
-    join_asks r = meets r.call top r.turns cells trail work n m r.going w size l.followed x y first second arity (decided_as l (Join x y first second arity) is)
+  module _ {q : Compounds} (is : act ≡ Join q) where
+    pub join_asks : Ready top (holds cells trail work (suc n) m) → Meets w top n q.n q.m q.left q.right q.arity
+    join_asks r = meets r.call top r.turns cells trail work n m r.going w size l.followed q.n q.m q.left q.right q.arity (decided_as l (Join q) is)
 
-    pub went_join : {w' : List ℕ} {r : ℕ} → length w' ≡ length w → Met w top n x y first second arity w' r → Went top (holds cells trail work (suc n) m) true (holds cells trail w' r m)
-    went_join {w'} {r} e q = record { next = λ c f g. go_join c top f cells trail work n m g w size l.followed x y first second arity (decided_as l (Join x y first second arity) is) w' e r q }
+    pub went_join : {w' : List ℕ} {r : ℕ} → length w' ≡ length w → Met w top n q.n q.m q.left q.right q.arity w' r → Went top (holds cells trail work (suc n) m) true (holds cells trail w' r m)
+    went_join {w'} {r} e o = record { next = λ c f g. go_join c top f cells trail work n m g w size l.followed q.n q.m q.left q.right q.arity (decided_as l (Join q) is) w' e r o }
 
 pub ready_looks : {top : ℕ} {cells trail work : List ℕ} {n m : ℕ} → Ready top (holds cells trail work (suc n) m) → Looks cells top work n
 ready_looks {top} {cells} {trail} {work} {n} {m} r = looks r.call top r.turns cells trail work n m r.going

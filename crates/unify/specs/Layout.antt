@@ -1,10 +1,9 @@
 -- The parts of the work buffer: a class word for each of the `top` used cells, then a shortcut along Vars for each, and then the pairs that stand, two words a pair.
 use Rattle.std.specs.Prelude.{◌≡◌, refl, List, [], ◌∷◌, ◌++◌, length, get_or, set, drop}
 use Rattle.std.proofs.Math.Path.{ap}
-use Rattle.std.proofs.Common.{◌∙◌, length-set, get_or-set_same, get_or-set_other, get_or-drop}
-use Prim.Native.Nat.{ℕ, zero, suc, ◌+◌, ◌*◌, ◌-◌, ◌<◌, ◌≤◌}
+use Rattle.std.proofs.Common.{◌∙◌, length-set, get_or-set_same, get_or-set_other}
+use Prim.Native.Nat.{ℕ, zero, suc, ◌+◌, ◌*◌, ◌<◌, ◌≤◌}
 use native.Mathlib.Omega.{arith}
-use Rattle.std.proofs.Math.Decide.{ℕ_discrete}
 
 -- the shortcuts, behind the classes
 abbrev pub hops_of : ℕ → List ℕ → List ℕ
@@ -76,55 +75,24 @@ pub grown_none : (w : List ℕ) (top n left right i : ℕ) → Grown w top n 0 (
 unfolding row
 grown_none w top n left right i = let e : n + 0 ≡ n = omega arith in record { pairs = rw e; near = λ j h. refl; far = λ j h. refl }
 
-module _ (w w' : List ℕ) (top n left right k j : ℕ) (g : Grown w top n j (row left right j (k - j)) w') where
-  pub grown_all : j ≡ k → Grown w top n k (row left right k 0) w'
-  grown_all e = let z : k - k ≡ 0 = omega arith in let h = rw e at g in rw z at h
+-- none yet, from any number on
+pub grown_start : (w : List ℕ) (top n left right j i : ℕ) → j ≡ 0 → Grown w top n j (row left right j i) w
+grown_start w top n left right j i e = rw e (grown_none w top n left right i)
 
-  pub grown_more : (i : ℕ) (w'' : List ℕ) → j < k → i ≡ k - j - 1 → Grown w' top (n + j) 1 ((left + i, right + i) ∷ []) w'' → Grown w top n (j + 1) (row left right (j + 1) (k - (j + 1))) w''
-  unfolding row
-  grown_more i w'' l e p =
-      let z : n + (j + 1) ≡ n + j + 1 = omega arith in
-      let y : j + 1 ≡ suc j = omega arith in
-      let x : k - j ≡ suc i = omega arith in
-      let v : k - (j + 1) ≡ i = omega arith in
-      record {
-        pairs = rw (z, v, y) (p.pairs ∙ ap (λ r. (left + i, right + i) ∷ r) (g.pairs ∙ rw x));
-        near = λ t h. p.near t (omega arith) ∙ g.near t h;
-        far = λ t h. p.far t (omega arith) ∙ g.far t (omega arith);
-      }
+-- one pair more, of the arguments number i, in place p: those from m on stand
+pub grown_next : {w w' w'' : List ℕ} {top n j p : ℕ} (left right i m k : ℕ) → m ≡ suc i → k ≡ j + 1 → p ≡ n + j → Grown w top n j (row left right j m) w' → Grown w' top p 1 ((left + i, right + i) ∷ []) w'' → Grown w top n k (row left right k i) w''
+unfolding row
+grown_next {n = n} {j = j} {p = p} left right i m k e q o g h =
+    let z : n + k ≡ p + 1 = omega arith in
+    let y : k ≡ suc j = omega arith in
+    record {
+      pairs = rw (z, y) (h.pairs ∙ rw o (ap (λ r. (left + i, right + i) ∷ r) (g.pairs ∙ rw e)));
+      near = λ t b. h.near t (omega arith) ∙ g.near t b;
+      far = λ t b. h.far t (omega arith) ∙ g.far t (omega arith);
+    }
 
 -- ---- forgetting: the shortcuts become 0, and no other word changes
 pub record Forgot (w : List ℕ) (top : ℕ) (w' : List ℕ) : Type 0 where
   pub none : (i : ℕ) → i < top → get_or (hops_of top w') i 0 ≡ 0
   pub near : (j : ℕ) → j < top → get_or w' j 0 ≡ get_or w j 0
   pub far : (j : ℕ) → pair_place top 0 ≤ j → get_or w' j 0 ≡ get_or w j 0
-
--- the shortcuts below i are 0
-pub record Forgetting (w : List ℕ) (top i : ℕ) (w' : List ℕ) : Type 0 where
-  pub low : top ≤ i
-  pub high : i ≤ pair_place top 0
-  pub long : length w' ≡ length w
-  pub none : (j : ℕ) → top ≤ j → j < i → get_or w' j 0 ≡ 0
-  pub near : (j : ℕ) → j < top → get_or w' j 0 ≡ get_or w j 0
-  pub far : (j : ℕ) → i ≤ j → get_or w' j 0 ≡ get_or w j 0
-
-pub forget_start : (w : List ℕ) (top : ℕ) → Forgetting w top top w
-forget_start w top = record { low = omega arith; high = omega arith; long = refl; none = λ j a b. absurd (omega arith); near = λ j h. refl; far = λ j h. refl }
-
-module _ {w : List ℕ} {top i : ℕ} {w' : List ℕ} (f : Forgetting w top i w') where
-  pub forget_more : i < pair_place top 0 → i < length w' → Forgetting w top (i + 1) (set w' i 0)
-  forget_more h r =
-      let l = f.low in
-      record {
-        low = omega arith;
-        high = omega arith;
-        long = length-set w' i 0 ∙ f.long;
-        none = λ j a b. elim (ℕ_discrete j i) [ yes e ↦ rw (e, get_or-set_same w' i 0 0 r) | no n ↦ get_or-set_other w' i j 0 0 n ∙ f.none j a (omega arith) ];
-        near = λ j b. get_or-set_other w' i j 0 0 (λ e. omega arith) ∙ f.near j b;
-        far = λ j b. get_or-set_other w' i j 0 0 (λ e. omega arith) ∙ f.far j (omega arith);
-      }
-
-  pub forget_end : pair_place top 0 ≤ i → Forgot w top w'
-  forget_end e =
-      let h = f.high in
-      record { none = λ j b. get_or-drop top w' j 0 ∙ f.none (top + j) (omega arith) (omega arith); near = f.near; far = λ j b. f.far j (omega arith) }

@@ -13,3 +13,5 @@ pub mod Joining
 pub mod Going
 -- The whole run.
 pub mod Whole
+-- The code's own machine.
+pub mod Words

@@ -1,6 +1,6 @@
 -- The last pair: its cells are followed, and what they ask for is decided.
 use Rattle.std.specs.Prelude.{◌≡◌, refl, List, ℕ, ◌+◌, ◌<◌, ◌≤◌, length, get_or}
-use Rattle.std.proofs.Common.{sym, ap, subst, ◌∙◌, arith}
+use Rattle.std.proofs.Common.{sym, ap, ◌∙◌}
 use Rattle.cell.specs.declared.Kind.{Kind}
 use Rattle.store.specs.Store.{kind_at, end_of, WellFormed}
 use Rattle.store.specs.WellFormed.{end_stays, steps_in}
@@ -8,7 +8,7 @@ use Rattle.chains.specs.Chains.{Hops}
 use Rattle.unify.specs.declared.Act.{Act}
 use Rattle.unify.specs.declared.Act.TheVariants.{Skip}
 use Rattle.unify.specs.Layout.{hops_of, pair_place, pair_at}
-use Rattle.unify.specs.Following.{Follows, Followed, followed_none, same_word}
+use Rattle.unify.specs.Following.{Followed, followed_none, same_word}
 use Rattle.unify.specs.Decided.{Stays, Two, Decided}
 
 -- the cells that pair number n comes to, once followed
@@ -39,16 +39,6 @@ module _ {cells : List ℕ} {top : ℕ} {w : List ℕ} {pairs : ℕ} (l : Looks 
   used_y : (1 ≤ y) × (y < top)
   used_y = rw ey l.right
 
-  pub cells_inside : (x < length cells) × (y < length cells)
-  cells_inside = let r = l.store.room in let a = used_x.1 in let b = used_y.1 in (omega arith, omega arith)
-
-  -- the first is followed with the shortcuts as they are, the second with those that this left
-  pub left_asks : Follows cells top w x
-  left_asks = let r = l.wide in record { store = l.store; hops = l.hops; low = used_x.0; high = used_x.1; wide = omega arith }
-
-  pub right_asks : {w₁ : List ℕ} → length w₁ ≡ length w → Followed cells top w w₁ → Follows cells top w₁ y
-  right_asks e f = let r = l.wide in record { store = l.store; hops = f.hops; low = used_y.0; high = used_y.1; wide = omega arith }
-
   pub same_words_lem : get_or cells x 0 ≡ get_or cells y 0 → Looked cells top w pairs w Skip
   same_words_lem e =
       record {
@@ -65,22 +55,3 @@ module _ {cells : List ℕ} {top : ℕ} {w : List ℕ} {pairs : ℕ} (l : Looks 
   module _ {a b : ℕ} (ea : a ≡ end_of cells top x) (eb : b ≡ end_of cells top y) {i : ℕ} {j : Kind} (ei : i ≡ a) (ej : j ≡ kind_at cells a) {k : ℕ} {o : Kind} (ek : k ≡ b) (eo : o ≡ kind_at cells b) where
     pub two_ends : Two cells i j k o
     two_ends = record { top = top; store = l.store; left = stays x a used_x ea i j ei ej; right = stays y b used_y eb k o ek eo }
-
-    pub looked : {w₁ w₂ : List ℕ} (act : Act) → Followed cells top w w₁ → Followed cells top w₁ w₂ → Decided cells i j k o act → Looked cells top w pairs w₂ act
-    looked act f g d =
-        record {
-          decided = by i j k o (ei ∙ ea ∙ ap (end_of cells top) ex) (ej ∙ ap (kind_at cells) (sym ei)) (ek ∙ eb ∙ ap (end_of cells top) ey) (eo ∙ ap (kind_at cells) (sym ek)) d;
-          followed = record { hops = g.hops; near = λ i h. g.near i h ∙ f.near i h; far = λ i h. g.far i h ∙ f.far i h };
-        }
-      where
-        A : ℕ
-        A = end_left cells top w pairs
-
-        B : ℕ
-        B = end_right cells top w pairs
-
-        by : (a : ℕ) (j : Kind) (b : ℕ) (k : Kind) → a ≡ A → j ≡ kind_at cells a → b ≡ B → k ≡ kind_at cells b → Decided cells a j b k act → Decided cells A (kind_at cells A) B (kind_at cells B) act
-        by a j b k ea ej eb ek d =
-            subst (λ (y : ℕ). Decided cells A (kind_at cells A) y (kind_at cells y) act) eb
-            (subst (λ (x : ℕ). Decided cells x (kind_at cells x) b (kind_at cells b) act) ea
-            (subst (λ (y : Kind). Decided cells a (kind_at cells a) b y act) ek (subst (λ (x : Kind). Decided cells a x b k act) ej d)))

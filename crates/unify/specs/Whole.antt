@@ -1,6 +1,7 @@
 -- The whole run: where it starts, that each turn goes on or clashes, and what it leaves.
 use Rattle.std.specs.Prelude.{◌≡◌, refl, Bool, true, false, List, [], ◌∷◌, ℕ, suc, ◌+◌, ◌-◌, ◌<◌, ◌≤◌, length, get_or, drop}
 use Rattle.std.proofs.Common.{sym, ap, subst, ◌∙◌, arith, length-drop, ext_get_or, get_or-drop}
+use Rattle.trail.specs.State.{State}
 use Rattle.chains.specs.Hops.{hops_none}
 use Rattle.chains.specs.Work.{work_need}
 use Rattle.classes.specs.Classes.{Classes, Apart}
@@ -8,7 +9,7 @@ use Rattle.unification.specs.Machine.{run, start, fuel, unified}
 use Rattle.unification.specs.Live.{Live}
 use Rattle.unification.proofs.Live.{live_start, live_done}
 use Rattle.unify.specs.Internal.{lent, Begins, Left}
-use Rattle.unify.specs.Layout.{hops_of, pair_place, standing, Grown, Forgot}
+use Rattle.unify.specs.Layout.{hops_of, pair_place, standing, length_standing, Grown, Forgot}
 use Rattle.unify.specs.Joining.{classes_near}
 use Rattle.unify.specs.Going.{Call, Held, holds, machine, Kept, Going, Stuck, ahead, Ready, Next, Went}
 
@@ -60,6 +61,17 @@ module _ {c : Call} {top : ℕ} {cells trail work : List ℕ} {n m : ℕ} (r : R
   pub run_sizes : (length cells ≡ length c.cells) × (length trail ≡ length c.trail) × (length work ≡ length c.work)
   run_sizes = let g = r.1 in (g.live.wrote.cells_size, g.live.wrote.trail_size, g.kept.long)
 
+  -- the pairs that stand are within the work buffer
+  pub run_room : pair_place top n ≤ length work
+  run_room =
+      let g = r.1 in
+      let w = g.kept.wide in
+      let l = g.kept.long in
+      let t = g.turns in
+      let f = g.live.time in
+      let o = g.live.store.low in
+      omega (arith, length_standing top work n)
+
   -- a pair stands, so a turn is left
   module _ {k : ℕ} (more : 0 < n) (is : k ≡ n - 1) where
     turn_left : Going c top (suc (r.0 - 1)) (holds cells trail work (suc k) m)
@@ -102,3 +114,7 @@ module _ {cells trail work w : List ℕ} {top trailed a b : ℕ} (low : 1 ≤ to
 
   pub left_no : Stuck (called cells trail work trailed a b) top h → Left (lent cells top trail trailed) w a b h.cells h.trail h.trailed h.work false
   left_no k = record { ended = k.ends; wrote = k.wrote; long = k.kept.long ∙ e; rest = rest_same low e s k.kept }
+
+-- the same words under other names
+pub left_same : {s : State} {w : List ℕ} {a b : ℕ} {cells cells' trail trail' : List ℕ} {n n' : ℕ} {work work' : List ℕ} {ok : Bool} → cells' ≡ cells → trail' ≡ trail → n' ≡ n → work' ≡ work → Left s w a b cells trail n work ok → Left s w a b cells' trail' n' work' ok
+left_same p q r t l = rw (p, q, r, t) l

@@ -1,63 +1,50 @@
 -- `append::append` meets its contract: the refusals in the definition's order, and the words taken away again where they do not fit.
-use mathlib.Core.Path.{◌∙◌, sym}
-use Prim.Native.Nat.{◌+◌, ◌≤◌}
-use native.Mathlib.Omega.{arith}
-use lib.ListN.{length}
+use Rattle.std.proofs.Common.{◌≡◌, arith}
+use borrow.Rule.Slice.PartMut.{put_mid}
+use Prim.Native.Nat.{◌+◌, ◌-◌, ◌≤◌, min}
 use Rattle.store.specs.Store.{limit}
-use Rattle.trail.specs.State.{state_of, check_passed}
-use Rattle.trail.specs.Facts.{Holds, holds_parts}
-use Rattle.append.specs.Calls.{appending}
-use Rattle.append.specs.Appending.{cells_are, over_limit, over_length, room_kept, rest_kept, keep_all, ends_old, placed, put_away}
+use lib.ListN.{length}
+use Rattle.trail.specs.State.{state_of}
+use Rattle.trail.specs.Facts.{Holds, check_parts}
+use Rattle.append.specs.Laid.{laid, put_laid}
+use Rattle.append.specs.Appending.{cells_are, room_kept, rest_kept, keep_all, ends_old, placed, put_away}
 use Rattle.append.proofs.append.Goals as goal
-use Rattle.append.proofs.append.Goals.{Else-cells-t, In_default}
-
-pub returns-in-Refused : goal.returns-in-Refused
-unfolding appending
-returns-in-Refused c = rw (← c.check.ensures, c.in-Refused.is)
+use Rattle.append.proofs.append.Goals.{In_ok-check, Else-min-t, After-copy_from_slice}
 
 -- past the check every rule holds
-good : (c : In_default) → let a = c.args in Holds (state_of a.cells.now a.top.now a.trail.now a.trailed a.marks.now a.marked)
-good c = holds_parts _ (check_passed _ (sym c.in_default.is ∙ c.check.ensures))
+good : (c : In_ok-check) → let a = c.args in Holds (state_of a.cells.now a.top.now a.trail.now a.trailed a.marks.now a.marked)
+good c = check_parts _ c.in_ok-check.ensures.answer
 
--- past both tests there is room
-fitting : (c : Else-cells-t) → let a = c.args in (a.top.now + length a.words.now ≤ limit) × (a.top.now + length a.words.now ≤ length a.cells.now)
-fitting c = let w = cells_are _ c.args.words.now (holds_parts _ (check_passed _ (sym c.in_default.is ∙ c.check.ensures))) in let h = w.high in let r = w.room in (omega arith, omega arith)
+-- there is room for the words
+fitting : (c : Else-min-t) → let a = c.args in length a.words.now ≤ min limit (length a.cells.now) - a.top.now
+fitting c = omega arith
 
-pub overflow_sub-t : goal.overflow_sub-t
-overflow_sub-t c = let w = cells_are _ c.args.words.now (good c) in let h = w.high in omega arith
+-- the words are laid
+written : (c : After-copy_from_slice) → let a = c.args in let t = a.top.now in let n = length a.words.now in put_mid t (t + n - t) a.cells.now c.copy_from_slice.new.self ≡ laid a.cells.now t a.words.now
+written c = rw c.copy_from_slice.ensures.after (put_laid _ _ _ (omega arith))
 
-pub returns-then-t-n : goal.returns-then-t-n
-returns-then-t-n c = let w = cells_are _ c.args.words.now (good (goal.at.returns-then-t-n c).In_default) in let h = w.high in over_limit _ _ (good (goal.at.returns-then-t-n c).In_default) (omega arith)
+pub good_from-requires : goal.good_from-requires
+good_from-requires c =
+    let here = goal.at.good_from-requires c in
+    let g = good here.In_ok-check in
+    let f = fitting here.Else-min-t in
+    let e = written here.After-copy_from_slice in
+    ((cells_are _ c.args.words.now g).low, keep_all _ _ g f _ e, ends_old _ _ g f _ e)
 
-pub overflow_sub-cells : goal.overflow_sub-cells
-overflow_sub-cells c = let w = cells_are _ c.args.words.now (good (goal.at.overflow_sub-cells c).In_default) in let h = w.room in omega arith
-
-pub returns-then-cells-t : goal.returns-then-cells-t
-returns-then-cells-t c = let w = cells_are _ c.args.words.now (good (goal.at.returns-then-cells-t c).In_default) in let h = w.high in let r = w.room in over_length _ _ (good (goal.at.returns-then-cells-t c).In_default) (omega arith) (omega arith)
-
-pub lay_at-requires : goal.lay_at-requires
-lay_at-requires c = let f = fitting (goal.at.lay_at-requires c).Else-cells-t in let w = cells_are _ c.args.words.now (good (goal.at.lay_at-requires c).In_default) in (w.high, f.1)
-
-pub cells_good-requires : goal.cells_good-requires
-cells_good-requires c =
-    let f = fitting (goal.at.cells_good-requires c).Else-cells-t in
-    let g = good (goal.at.cells_good-requires c).In_default in
-    let w = cells_are _ c.args.words.now g in
-    let e = c.lay_at.ensures in
-    (w.low, f.0, room_kept _ _ g f.0 f.1 _ e, keep_all _ _ g f.0 f.1 _ e, ends_old _ _ g f.0 f.1 _ e)
-
-pub returns-then-cells_good : goal.returns-then-cells_good
-returns-then-cells_good c =
-    let f = fitting (goal.at.returns-then-cells_good c).Else-cells-t in
-    placed _ _ (good (goal.at.returns-then-cells_good c).In_default) f.0 f.1 _ c.lay_at.ensures _ c.cells_good.ensures c.if-cells_good.true
+pub returns-then-good_from : goal.returns-then-good_from
+returns-then-good_from c =
+    let here = goal.at.returns-then-good_from c in
+    placed _ _ (good here.In_ok-check) (fitting here.Else-min-t) _ (written here.After-copy_from_slice) _ c.good_from.ensures c.if-good_from.true
 
 pub zero_to-requires : goal.zero_to-requires
 zero_to-requires c =
-    let f = fitting (goal.at.zero_to-requires c).Else-cells-t in
-    let e = c.lay_at.ensures in
-    (omega arith, room_kept _ _ (good (goal.at.zero_to-requires c).In_default) f.0 f.1 _ e, rest_kept _ _ (good (goal.at.zero_to-requires c).In_default) f.0 f.1 _ e)
+    let here = goal.at.zero_to-requires c in
+    let g = good here.In_ok-check in
+    let f = fitting here.Else-min-t in
+    let e = written here.After-copy_from_slice in
+    (omega arith, room_kept _ _ g f _ e, rest_kept _ _ g f _ e)
 
 pub returns : goal.returns
 returns c =
-    let f = fitting (goal.at.returns c).Else-cells-t in
-    put_away _ _ (good (goal.at.returns c).In_default) f.0 f.1 _ c.lay_at.ensures _ c.cells_good.ensures c.if-cells_good.false _ c.zero_to.ensures
+    let here = goal.at.returns c in
+    put_away _ _ (good here.In_ok-check) (fitting here.Else-min-t) _ (written here.After-copy_from_slice) _ c.good_from.ensures c.if-good_from.false _ c.zero_to.ensures

@@ -1,6 +1,7 @@
 -- `engine::trisculap_cut` meets its contract: it returns and tells what `marks::cut` answers.
-use Rattle.engine.specs.Coded.{coded_by}
+use mathlib.Core.Path.{ap, ◌∙◌}
+use Rattle.engine.specs.Coded.{code_of, said_answer, coded_by}
 use Rattle.engine.proofs.trisculap_cut.Goals as goal
 
 pub returns : goal.returns
-returns c = coded_by c.cut.ensures c.code.ensures
+returns c = coded_by c.cut.ensures (c.code.ensures ∙ ap code_of (said_answer _))

@@ -1,18 +1,12 @@
-use mathlib.Core.Path.{◌∙◌, sym, refl}
-use native.Mathlib.Omega.{arith}
-use Rattle.store.specs.All.{all_done, all_fails, all_goes}
-use Rattle.marks.specs.Left.{cells_left}
+-- `marks::cells_left` meets its contract: what the library says of all used cells, in the words of the definition.
+use Rattle.std.proofs.Common.{◌∙◌, refl, rules}
+use borrow.Author.Tests.{tests}
+use Rattle.std.proofs.lemmas.Iterator.{YieldsList-from_range}
+use Rattle.std.proofs.lemmas.Iterator.Search.{all_from_yields_List}
+use Rattle.marks.specs.Left.{keeps_left, cells_left}
+use Rattle.marks.proofs.AllOf.{all_range}
 use Rattle.marks.proofs.cells_left.Goals as goal
 
-pub loop-i-init : goal.loop-i-init
-unfolding cells_left
-loop-i-init c = (omega arith, refl)
-
-pub returns-then-not-keeps_left : goal.returns-then-not-keeps_left
-returns-then-not-keeps_left c = sym (c.loop-i.invariant.1 ∙ all_fails _ _ (omega arith) (sym c.keeps_left.ensures ∙ c.if-not-keeps_left.true))
-
-pub loop-i-preserved : goal.loop-i-preserved
-loop-i-preserved c = (omega arith, c.loop-i.invariant.1 ∙ all_goes _ _ (omega arith) (sym c.keeps_left.ensures ∙ c.if-not-keeps_left.false))
-
 pub returns : goal.returns
-returns c = sym (c.loop-i.invariant.1 ∙ all_done _ _ (omega arith))
+unfolding cells_left
+returns c = let a = c.args in all_from_yields_List (keeps_left a.cells.words.now a.freed.now a.cells.top) _ _ _ c.all.ensures.ran (YieldsList-from_range 1 a.cells.top _ refl refl) (λ x b q k. search (rules, tests)) ∙ all_range _ _ _

@@ -1,30 +1,24 @@
-use mathlib.Core.Path.{◌≡◌, refl, ap, subst, ◌∙◌}
-use Prim.Native.Nat.{ℕ, ◌/◌}
-use native.Mathlib.Omega.{arith}
-use lib.ListN.{length, length-replicate}
+use Rattle.std.proofs.Common.{◌≡◌, ◌∙◌, ap, ◌/◌, ◌+◌, length, subst, add-zero, arith}
 use Rattle.cell_set.specs.Table.{length_noting}
 use Rattle.store.specs.Store.{limit}
 use Rattle.trail.specs.Seen.{Seen, seen_none, seen_more}
+use Rattle.marks.proofs.Walked.{part_length, part_entry}
 use Rattle.marks.proofs.note_named.Goals as goal
 
-pub loop-i-init : goal.loop-i-init
-loop-i-init c = let e = c.requires.1 in (omega arith, c.requires.0.order, ap length e ∙ length-replicate {A = ℕ} (limit / 64) 0, seen_none _ _ (limit / 64) _ e)
+pub loop-e-init : goal.loop-e-init
+loop-e-init c = rw add-zero (seen_none _ _ (limit / 64) _ c.new-freed.ensures, ap length c.new-freed.ensures)
 
-pub bounds-trail-i : goal.bounds-trail-i
-bounds-trail-i c = let t = c.requires.0.there in omega arith
-
-pub note-requires : goal.note-requires
-note-requires c = let h = c.requires.0.small c.loop-i.i (omega arith) (omega arith) in omega arith
-
-pub loop-i-preserved : goal.loop-i-preserved
-loop-i-preserved c =
-    let l = c.loop-i in
-    let h = c.requires.0.small l.i (omega arith) (omega arith) in
-    let z = l.invariant.2 in
-    (omega arith, omega arith, ap length c.note.ensures ∙ length_noting _ _ ∙ z, seen_more _ _ _ _ l.invariant.3 _ refl (omega arith) (omega arith) _ c.note.ensures)
+pub loop-e-preserved : goal.loop-e-preserved
+loop-e-preserved c =
+    let l = c.loop-e in
+    let i = c.args.from + l.e-index in
+    let p = part_entry c.requires l.e-index c.loop-e-test.true in
+    let z : c.args.from + (l.e-index + 1) ≡ i + 1 = omega arith in
+    rw z (seen_more _ _ _ _ l.invariant.0 _ p.0 (omega arith) (omega arith) _ c.insert.ensures, ap length c.insert.ensures ∙ length_noting _ _ ∙ l.invariant.1)
 
 pub returns : goal.returns
 returns c =
-    let l = c.loop-i in
-    let e : l.i ≡ c.args.to = omega arith in
-    subst (Seen _ _ _) e l.invariant.3
+    let p = part_length c.requires in
+    let l = c.loop-e in
+    let e : c.args.from + l.e-index ≡ c.args.to = omega arith in
+    subst (Seen _ _ _) e l.invariant.0

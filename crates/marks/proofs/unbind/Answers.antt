@@ -1,32 +1,15 @@
-use mathlib.Core.Path.{◌∙◌, sym, refl}
-use native.Mathlib.Omega.{arith}
-use lib.ListN.{length-set}
+use Rattle.std.proofs.Common.{◌≡◌, ◌∙◌, ◌+◌, sym, arith}
 use Rattle.marks.specs.Unbind.{unbind_more, unbind_done}
-use borrow.Author.Rules.{rules}
+use Rattle.marks.proofs.Walked.{part_length, part_entry}
 use Rattle.marks.proofs.unbind.Goals as goal
 
-pub loop-i-init : goal.loop-i-init
-loop-i-init c = (omega arith, c.requires.0.order, refl, refl)
-
-pub bounds-trail-i : goal.bounds-trail-i
-bounds-trail-i c = let t = c.requires.0.there in omega arith
-
-pub var_word-requires : goal.var_word-requires
-var_word-requires c = let h = c.requires.1.small c.loop-i.i (omega arith) (omega arith) in omega arith
-
-pub offset_bounds-cells-e : goal.offset_bounds-cells-e
-offset_bounds-cells-e c = let h = c.requires.1.small c.loop-i.i (omega arith) (omega arith) in search rules
-
-pub bounds-cells-e : goal.bounds-cells-e
-bounds-cells-e c = let h = c.requires.0.small c.loop-i.i (omega arith) (omega arith) in omega arith
-
-pub loop-i-preserved : goal.loop-i-preserved
-loop-i-preserved c =
-    let l = c.loop-i in
-    (omega arith, omega arith, simp length-set l.invariant.2, l.invariant.3 ∙ unbind_more _ _ _ _ _ refl c.var_word.ensures (omega arith))
-
-pub shape_of-cells : goal.shape_of-cells
-shape_of-cells c = c.loop-i.invariant.2
+pub loop-e-preserved : goal.loop-e-preserved
+loop-e-preserved c =
+    let l = c.loop-e in
+    let i = c.args.from + l.e-index in
+    let p = part_entry c.requires.0 l.e-index c.loop-e-test.true in
+    let z : c.args.from + (l.e-index + 1) ≡ i + 1 = omega arith in
+    rw z (l.invariant ∙ unbind_more _ i _ _ _ p.0 c.var_word.ensures p.1)
 
 pub returns : goal.returns
-returns c = sym (c.loop-i.invariant.3 ∙ unbind_done _ _ _ (omega arith))
+returns c = let p = part_length c.requires.0 in sym (c.loop-e.invariant ∙ unbind_done _ _ _ (omega arith))

@@ -1,7 +1,7 @@
 -- `storecheck::words` meets its contract. The loop's invariant: the first `i` words are read.
-use Rattle.std.proofs.Common.{◌≡◌, ℕ, ◌*◌, ◌<◌, get_or}
-use Rattle.storecheck.specs.Little.{word_at}
+use Rattle.std.proofs.Common.{◌≡◌, take, map}
+use Rattle.std.specs.Int.{w64, from_le_bytes}
 use Rattle.storecheck.proofs.words.Given as goal
 
 abbrev pub invariant-loop-i : goal.invariant-loop-i
-invariant-loop-i l = (j : ℕ) → j < l.i → get_or l.cells j 0 ≡ word_at l.bytes (j * 8)
+invariant-loop-i l = take l.i l.cells ≡ map (from_le_bytes w64) (take l.i l.chunks)

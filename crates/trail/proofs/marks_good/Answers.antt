@@ -1,25 +1,34 @@
-use mathlib.Core.Path.{◌∙◌, sym, refl}
-use native.Mathlib.Omega.{arith}
-use Rattle.store.specs.All.{all_done, all_fails, all_goes, and_fails, and_same, and_goes}
-use Rattle.trail.proofs.MarkLoop.{top_next, trail_next, before_first, mark_low, mark_is, marks_long, marks_start}
+use Rattle.std.proofs.Common.{◌≡◌, ◌∙◌, sym, length, get_or, ℕ, [], ◌<◌, ◌/◌, arith}
+use Rattle.std.proofs.lemmas.Grind.{common_steps}
+use Rattle.store.specs.All.{all_fails, all_goes, and_fails, and_same}
+use Rattle.trail.specs.Rules.{mark_width, mark_top, mark_trail}
+use Rattle.trail.proofs.MarkLoop.{top_next, trail_next, mark_low, mark_is}
+use Rattle.trail.proofs.Pairs.{mark_words}
 use Rattle.trail.proofs.marks_good.Goals as goal
+use Rattle.trail.proofs.marks_good.Goals.{In-Some, then-not-rises-via-then-not-rises, then-not-rises-via-else-not-rises+then-not-rises-2}
 
-pub returns-then-marks-marked : goal.returns-then-marks-marked
-returns-then-marks-marked c = marks_long _ _ _ _ (omega arith)
-
-pub loop-m-init : goal.loop-m-init
-loop-m-init c = (omega arith, omega arith, marks_start _ _ _ _ (omega arith), (before_first _).0, (before_first _).1)
+-- the words of a used mark are those of the definition
+words : (c : In-Some) (m : ℕ) → m < length c.in-Some.used.now → let w = get_or c.in-Some.used.now m [] in (get_or w 0 0 ≡ mark_top c.args.marks.now m) × (get_or w 1 0 ≡ mark_trail c.args.marks.now m)
+words c m l =
+    let e = c.in-Some.ensures.lookup.0 in
+    let k = length c.args.marks.now / mark_width in
+    let s : get_or c.in-Some.used.now m [] ≡ get_or c.as_chunks.result.0.now m [] = grind (arith, common_steps) in
+    let h : m < k = let f = c.as_chunks.ensures.front_len in omega arith in
+    rw (s, c.as_chunks.ensures.front) (mark_words k c.args.marks.now m h)
 
 pub returns-then-not-rises : goal.returns-then-not-rises
-returns-then-not-rises c = let l = c.loop-m in and_fails _ _ (all_fails _ _ (omega arith) (mark_low _ _ _ _ _ _ _ _ _ l.invariant.3 l.invariant.4 refl refl c.rises.ensures c.if-not-rises.true)) ∙ sym l.invariant.2
+returns-then-not-rises c =
+    let l = c.loop-nt in
+    let e = c.in-Some.ensures.lookup.0 in
+    let w = words (goal.at.returns-then-not-rises c).In-Some l.nt-index c.loop-nt-test.true in
+    and_fails _ _ (all_fails _ _ (omega arith) (elim c.then-not-rises.branch [
+      | then-not-rises-via-then-not-rises b ↦ mark_low _ _ _ _ _ _ _ _ _ l.invariant.1 l.invariant.2 w.0 w.1 c.rises.ensures b.if-not-rises.true
+      | then-not-rises-via-else-not-rises+then-not-rises-2 b ↦ mark_is _ _ _ _ _ _ _ _ _ l.invariant.1 l.invariant.2 w.0 w.1 c.rises.ensures _ b.rises-else-not-rises.ensures b.if-not-rises.false ∙ b.if-not-rises-2.true
+    ])) ∙ sym l.invariant.0
 
-pub returns-then-not-rises-2 : goal.returns-then-not-rises-2
-returns-then-not-rises-2 c = let l = c.loop-m in and_fails _ _ (all_fails _ _ (omega arith) (mark_is _ _ _ _ _ _ _ _ _ l.invariant.3 l.invariant.4 refl refl c.rises.ensures _ c.rises-in-loop-m.ensures c.if-not-rises.false ∙ c.if-not-rises-2.true)) ∙ sym l.invariant.2
-
-pub loop-m-preserved : goal.loop-m-preserved
-loop-m-preserved c =
-    let l = c.loop-m in
-    (omega arith, omega arith, l.invariant.2 ∙ and_same _ _ _ (all_goes _ _ (omega arith) (mark_is _ _ _ _ _ _ _ _ _ l.invariant.3 l.invariant.4 refl refl c.rises.ensures _ c.rises-in-loop-m.ensures c.if-not-rises.false ∙ c.if-not-rises-2.false)), top_next _ _ _ refl, trail_next _ _ _ refl)
-
-pub returns : goal.returns
-returns c = let l = c.loop-m in c.zero_from.ensures ∙ and_goes _ _ (all_done _ _ (omega arith)) ∙ sym l.invariant.2
+pub loop-nt-preserved : goal.loop-nt-preserved
+loop-nt-preserved c =
+    let l = c.loop-nt in
+    let e = c.in-Some.ensures.lookup.0 in
+    let w = words (goal.at.loop-nt-preserved c).In-Some l.nt-index c.loop-nt-test.true in
+    (l.invariant.0 ∙ and_same _ _ _ (all_goes _ _ (omega arith) (mark_is _ _ _ _ _ _ _ _ _ l.invariant.1 l.invariant.2 w.0 w.1 c.rises.ensures _ c.rises-else-not-rises.ensures c.if-not-rises.false ∙ c.if-not-rises-2.false)), top_next _ _ _ w.0, trail_next _ _ _ w.1)

@@ -1,16 +1,14 @@
 -- `unifier::trail_room` meets its contract: the unbound Vars are at most as many as the used cells, so with as many entries none need be counted.
-use mathlib.Core.Path.{sym}
-use native.Mathlib.Omega.{arith}
+use Rattle.std.proofs.Common.{sym, arith}
 use borrow.Author.Tests.{le-leb}
-use Rattle.unification.specs.Calls.{unbound}
-use Rattle.unifier.specs.Count.{unbound_within}
+use Rattle.unifier.specs.Count.{unbound_counted, unbound_within}
 use Rattle.unifier.proofs.trail_room.Goals as goal
 
-pub returns-then-top-free : goal.returns-then-top-free
-returns-then-top-free c =
+pub returns-then-cells-free : goal.returns-then-cells-free
+returns-then-cells-free c =
     let a = c.args in
-    let w = unbound_within a.cells.now a.top in
-    sym (le-leb (unbound a.cells.now a.top) a.free (omega arith))
+    let w = unbound_within a.cells.words.now a.cells.top in
+    rw (le-leb a.cells.top a.free (omega arith)) (sym (le-leb _ a.free (omega arith)))
 
-pub returns : goal.returns
-returns c = rw c.count_unbound.ensures
+pub returns-else-cells-free : goal.returns-else-cells-free
+returns-else-cells-free c = rw (c.count_unbound.ensures, unbound_counted c.args.cells.words.now c.args.cells.top)

@@ -1,0 +1,3 @@
+-- Laws that only the proofs of this crate's functions need.
+mod AllOf
+mod Walked

@@ -1,2 +1,0 @@
--- What the program reads.
-pub mod Little
