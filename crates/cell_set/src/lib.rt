@@ -1,10 +1,27 @@
 // A set of cells: a table with a bit for each, in words of 64. A cell whose bit is 1 is in the set.
 #![tactic(auto)]
 
-ghost use Rattle.std.specs.Prelude.{◌≡◌, ◌*◌, ◌<◌, eqb, replicate};
+ghost use Rattle.std.specs.Prelude.{◌≡◌, ◌*◌, ◌<◌, eqb, length, replicate};
 ghost use Rattle.cell_set.specs.Table.{bit_at, noting};
 
 use std::marker::Model;
+
+// Whether a cell is noted in a table, of any length that is enough.
+pub fn is_noted(table: &[u64], i: usize) -> bool
+    requires { i < 64 * length table.now }
+    ensures { result ≡ eqb (bit_at table.now i) 1 }
+{
+    (table[i / 64] >> (i % 64)) & 1 == 1
+}
+
+// Notes a cell in it.
+pub fn note(table: &mut [u64], i: usize)
+    requires { i < 64 * length table.old }
+    ensures { table.new ≡ noting table.old i }
+{
+    let bit: u64 = 1 << (i % 64);
+    table[i / 64] |= bit;
+}
 
 // A set of the first 64 cells for each word. In a contract it is the list of its words.
 #[derive(Drop)]
@@ -33,7 +50,7 @@ impl<const WORDS: usize> CellSet<WORDS> {
         requires { i < 64 * WORDS }
         ensures { result ≡ eqb (bit_at self.now i) 1 }
     {
-        (self.table[i / 64] >> (i % 64)) & 1 == 1
+        is_noted(&self.table, i)
     }
 
     // Puts a cell into it.
@@ -41,7 +58,6 @@ impl<const WORDS: usize> CellSet<WORDS> {
         requires { i < 64 * WORDS }
         ensures { self.new ≡ noting self.old i }
     {
-        let bit: u64 = 1 << (i % 64);
-        self.table[i / 64] |= bit;
+        note(&mut self.table, i)
     }
 }

@@ -62,6 +62,17 @@ pub fn header_at(cells: &[u64], i: usize) -> bool
     is_header(cells[i])
 }
 
+// Whether a cell stands for a term: a used cell from 1 that is no header.
+pub fn term_at(cells: &[u64], top: usize, i: usize) -> bool
+    requires { top ≤ length cells.now }
+    ensures { result ≡ term_at cells.now top i }
+{
+    if i < 1 || top <= i {
+        return false;
+    }
+    !header_at(cells, i)
+}
+
 // A step along a Var; any other cell stays.
 pub fn step_of(cells: &[u64], i: usize) -> usize
     requires { i < length cells.now }
@@ -137,14 +148,11 @@ pub struct Cells<'a> {
 }
 
 impl<'a> Cells<'a> {
-    // Whether a cell stands for a term: a used cell from 1 that is no header.
+    // Whether a cell of these stands for a term.
     pub fn term_at(self, i: usize) -> bool
         ensures { result ≡ term_at self.entry.words.now self.entry.top i }
     {
-        if i < 1 || self.top <= i {
-            return false;
-        }
-        !header_at(self.words, i)
+        term_at(self.words, self.top, i)
     }
 
     fn atom_at(self, f: usize) -> bool
