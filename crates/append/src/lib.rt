@@ -1,13 +1,24 @@
 // Appending words at the end of a store's used cells.
 #![tactic(auto)]
 
-ghost use Rattle.std.specs.Prelude.{◌≡◌};
+ghost use Rattle.std.specs.Prelude.{◌≡◌, length};
 ghost use Rattle.trail.specs.State.{state_of, said_number};
 ghost use Rattle.append.specs.Calls.{appending};
 
 use cell::Refusal;
 use store::{Cells, LIMIT};
 use trail::State;
+
+// The words of a slice into another of the same length. One by one: the library's copy of slices would ask
+// the C library for `memmove`, which firmware may lack.
+fn copy_words(to: &mut [u64], from: &[u64])
+    requires { length to.old ≡ length from.now }
+    ensures { to.new ≡ from.now }
+{
+    for (i, w) in from.iter().enumerate() {
+        to[i] = *w;
+    }
+}
 
 // Adds the words at `top` and answers the old `top`, where they stand; refusals 1, 2, 7 and 9.
 #[tactic(auto, unfolding(crate::specs::Calls::appending))]
@@ -36,7 +47,7 @@ pub fn append(
     if LIMIT.min(cells.len()) - t < n {
         return Err(Refusal::Room);
     }
-    cells[t..t + n].copy_from_slice(words);
+    copy_words(&mut cells[t..t + n], words);
     let grown = Cells {
         words: cells,
         top: t + n,
