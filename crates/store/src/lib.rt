@@ -219,10 +219,11 @@ impl<'a> Cells<'a> {
                     if i <= last {
                         return false;
                     }
-                    if self.top - i <= arity {
+                    // The sum may stop at the greatest number, which is no cell's.
+                    last = i.saturating_add(arity);
+                    if self.top <= last {
                         return false;
                     }
-                    last = i + arity;
                 }
             }
         }

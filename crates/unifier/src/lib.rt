@@ -24,9 +24,14 @@ use trail::State;
 fn count_unbound(cells: Cells) -> usize
     ensures { result ≡ count_by (unbound_at cells.entry.words.now) (range_with_len 0 cells.entry.top) }
 {
-    (0..cells.top)
-        .filter(|i| cells.words[*i] == cell::var_word(*i))
-        .count()
+    // A loop, which the compiler makes of instructions for two words at once, as it does not of a filter.
+    let mut n = 0;
+    for i in 0..cells.top {
+        if cells.words[i] == cell::var_word(i) {
+            n += 1;
+        }
+    }
+    n
 }
 
 // Whether the free trail entries are as many as the unbound Vars, which are counted only where there

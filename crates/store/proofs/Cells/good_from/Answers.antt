@@ -1,9 +1,11 @@
 use mathlib.Core.Path.{◌∙◌, sym, subst}
 use native.Mathlib.Omega.{arith}
+use mathlib.Core.Path.{◌≡◌}
+use Prim.Native.Nat.{◌+◌}
 use Rattle.store.specs.All.{and_fails, and_goes}
 use Rattle.store.specs.Survey.{StandsAt, survey_start, survey_breaks, survey_keeps, survey_turns, survey_inside, survey_short, survey_heads, survey_kept, survey_ends}
 use Rattle.store.proofs.Cells.good_from.Goals as goal
-use Rattle.store.proofs.Cells.good_from.Goals.{in-Keeps, in-Turns, in-Heads+else-i-last+else-self-i}
+use Rattle.store.proofs.Cells.good_from.Goals.{in-Keeps, in-Turns, in-Heads+else-i-last+else-self-last}
 
 pub loop-i-init : goal.loop-i-init
 loop-i-init c = survey_start _ _ _ (omega arith)
@@ -16,8 +18,8 @@ pub returns-then-i-last : goal.returns-then-i-last
 returns-then-i-last c =
     and_fails _ _ (survey_inside _ _ _ c.loop-i.invariant (omega arith) _ (subst (StandsAt _ _ _) c.in-Heads.is c.stands_at.ensures) c.if-i-last.true)
 
-pub returns-then-self-i : goal.returns-then-self-i
-returns-then-self-i c =
+pub returns-then-self-last : goal.returns-then-self-last
+returns-then-self-last c =
     and_fails _ _ (survey_short _ _ _ c.loop-i.invariant (omega arith) _ (subst (StandsAt _ _ _) c.in-Heads.is c.stands_at.ensures) (omega arith) (omega arith))
 
 pub loop-i-preserved : goal.loop-i-preserved
@@ -26,7 +28,7 @@ loop-i-preserved c =
     elim c.match-stands_at.branch [
       | in-Keeps w ↦ rw (w.turns-is, w.last-is) (survey_keeps _ _ _ s (omega arith) (subst (StandsAt _ _ _) w.in-Keeps.is c.stands_at.ensures))
       | in-Turns w ↦ rw (w.turns-is, w.last-is) (survey_turns _ _ _ s (omega arith) (subst (StandsAt _ _ _) w.in-Turns.is c.stands_at.ensures))
-      | in-Heads+else-i-last+else-self-i w ↦ rw (w.turns-is, w.last-is) (survey_heads _ _ _ s (omega arith) _ (subst (StandsAt _ _ _) w.in-Heads.is c.stands_at.ensures) (omega arith) (omega arith))
+      | in-Heads+else-i-last+else-self-last w ↦ let e : w.saturating_add-last.result ≡ c.loop-i.i + w.in-Heads.arity = omega arith in rw (w.turns-is, w.last-is, e) (survey_heads _ _ _ s (omega arith) _ (subst (StandsAt _ _ _) w.in-Heads.is c.stands_at.ensures) (omega arith) (omega arith))
     ]
 
 pub invariant_of-cells_end : goal.invariant_of-cells_end
