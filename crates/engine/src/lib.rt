@@ -103,6 +103,7 @@ pub fn trisculap_append(
 }
 
 // Sets a mark; refusals 1, 2 and 7.
+#[tactic(auto, using(crate::specs::Coded::tells_by, crate::specs::Coded::told_by))]
 pub fn trisculap_mark(
     cells: &[u64],
     top: usize,

@@ -9,7 +9,7 @@ use Rattle.trail.specs.State.{State, check_of, need, ◌then◌}
 use Rattle.cycle.specs.Verdict.{cyclic_at}
 use Rattle.chains.specs.Work.{work_need}
 use Rattle.unification.specs.Calls.{unbound, plain_check, checked_check, check_by}
-use Rattle.unification.proofs.Asked.{refuses_plain}
+use Rattle.unification.proofs.Asked.{refuses_plain, refuses_state}
 
 module _ (s : State) (work : List ℕ) (a b : ℕ) where
   -- with no lower number given, the trail's room decides between done and refusal 5
@@ -25,6 +25,10 @@ module _ (s : State) (work : List ℕ) (a b : ℕ) where
         go : (k : Bool) → Err e ≡ check_by k s work a b
         go false = sym c
         go true = sym (refuses_plain s work a b e c)
+
+    -- refusals 1 and 2 are those of the check of the state
+    pub state_refuses : {e : Refusal} → Err e ≡ check_of s → Err e ≡ check_by checked s work a b
+    state_refuses r = check_refuses (refuses_state s work a b _ (sym r))
 
     both : (p q : Bool) → need (not (p || q)) Cycle ≡ (need (not p) Cycle then need (not q) Cycle)
     both true q = refl

@@ -36,6 +36,7 @@ fn count_unbound(cells: Cells) -> usize
 
 // Whether the free trail entries are as many as the unbound Vars, which are counted only where there
 // are fewer entries than used cells.
+#[tactic(auto, using(crate::specs::Count::unbound_counted, crate::specs::Count::unbound_within))]
 fn trail_room(cells: Cells, free: usize) -> bool
     ensures { result ≡ leb (unbound cells.entry.words.now cells.entry.top) free }
 {
@@ -43,6 +44,7 @@ fn trail_room(cells: Cells, free: usize) -> bool
 }
 
 // Whether a call is refused: by 1, 2, 3, 4 or 5, or a checked one by 6.
+#[tactic(auto, using(crate::specs::Checks::state_refuses))]
 fn check(state: &State, work: &[u64], a: usize, b: usize, checked: bool) -> Result<(), Refusal>
     ensures { result ≡ check_by checked state.now work.now a b }
 {

@@ -5,8 +5,8 @@ use Rattle.cell.specs.declared.Refusal.TheVariants.{TrailRoom}
 use Rattle.trail.specs.State.{State, check_passed, need}
 use Rattle.trail.specs.Facts.{Holds, holds_parts}
 use Rattle.unification.specs.Calls.{plain_check}
-use Rattle.unification.proofs.Asked.{refuses_state, refuses_left, refuses_right, refuses_work}
-use Rattle.unifier.specs.Checks.{room_decides, check_refuses, cycle_decides}
+use Rattle.unification.proofs.Asked.{refuses_left, refuses_right, refuses_work}
+use Rattle.unifier.specs.Checks.{room_decides, check_refuses, state_refuses, cycle_decides}
 use Rattle.unifier.proofs.check.Goals as goal
 use Rattle.unifier.proofs.check.Goals.{In_ok-store, Else-work-work_need, After-trail_room, then-not-term_at-via-then-not-term_at, then-not-term_at-via-else-not-term_at+then-not-term_at-2, else-checked-via-then-checked+else-either_cyclic, else-checked-via-else-checked}
 
@@ -17,7 +17,7 @@ held c = holds_parts _ (check_passed _ c.in_ok-store.ensures.answer)
 pub returns-in_err-store : goal.returns-in_err-store
 returns-in_err-store c =
     let p = err_from_is_err_and c.from_residual.result c.from_residual.ensures.1 in
-    rw (p.1, p.2) (check_refuses _ _ _ _ _ (refuses_state _ _ _ _ _ (sym c.in_err-store.ensures.answer)))
+    rw (p.1, p.2) (state_refuses _ _ _ _ _ c.in_err-store.ensures.answer)
 
 pub returns-then-not-term_at : goal.returns-then-not-term_at
 returns-then-not-term_at c =
