@@ -81,11 +81,25 @@ fn check(bytes: &[u8]) -> Result<Verdict, InputError> {
     Ok(Verdict { top, returned })
 }
 
+// Reads until the bytes are full or the input ends; tells how many it read, which `io::copy` does not
+// promise to be within the room.
+fn read_full(input: &mut impl Read, bytes: &mut [u8]) -> io::Result<usize>
+    ensures { IfOk result (λ n. n ≤ length bytes.new) }
+{
+    let mut done = 0;
+    while done < bytes.len() {
+        match input.read(&mut bytes[done..])? {
+            0 => break,
+            n => done += n,
+        }
+    }
+    Ok(done)
+}
+
 fn main(rt: HostRuntime) -> io::Result<()> {
     let mut room = [0; ROOM];
-    let n = io::copy(&mut rt.stdin().take(ROOM as u64), &mut room.as_mut_slice())?;
-    // That `n` is within the room follows from no promise of `copy`.
-    match check(&room[..ROOM.min(n as usize)]) {
+    let n = read_full(&mut rt.stdin(), &mut room)?;
+    match check(&room[..n]) {
         Ok(verdict) => println!(rt; "{verdict}"),
         Err(why) => println!(rt; "{why}"),
     }

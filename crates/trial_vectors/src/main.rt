@@ -4,7 +4,7 @@
 // CALL is 1 plain, 2 checked, 3 copy, 4 cyclic; cell 0 is left out of the cells; 0 ends the list.
 #![tactic(auto)]
 
-ghost use Rattle.std.specs.Prelude.{◌≡◌, ◌≢◌, ◌<◌, ◌≤◌, length, OnSome};
+ghost use Rattle.std.specs.Prelude.{◌≡◌, ◌≢◌, ◌<◌, ◌≤◌, length, IfOk, OnSome};
 
 use std::io;
 use std::io::Read;
@@ -158,17 +158,6 @@ fn digit(b: u8) -> Option<u64> {
     }
 }
 
-// The number of these digits; of more than sixteen the last sixteen.
-fn value(digits: &[u8]) -> u64
-    ensures { length digits.now ≡ 0 → result ≡ 0 }
-{
-    let mut value = 0;
-    for b in digits {
-        value = (value << 4) | digit(*b).unwrap_or(0);
-    }
-    value
-}
-
 // What is left of the text.
 #[derive(Drop)]
 struct Reader<'a> {
@@ -176,17 +165,26 @@ struct Reader<'a> {
 }
 
 impl Reader<'_> {
-    // The next number, past what is no digit; 0 where none is left.
+    // The next number, past what is no digit; 0 where none is left. Of more than sixteen digits the last
+    // sixteen.
     fn number(&mut self) -> u64
         ensures left { length self.new.rest.now ≤ length self.old.rest.now }
         ensures taken { result ≢ 0 → length self.new.rest.now < length self.old.rest.now }
     {
         let start = self.rest.iter().position(|b| digit(*b).is_some());
         let text = &self.rest[start.unwrap_or(self.rest.len())..];
-        let len = text.iter().position(|b| digit(*b).is_none());
-        let (digits, rest) = text.split_at(len.unwrap_or(text.len()));
-        self.rest = rest;
-        value(digits)
+        let mut value = 0;
+        let mut len = 0;
+        // One pass over the digits, for most of a run is spent here.
+        for b in text {
+            let Some(d) = digit(*b) else {
+                break;
+            };
+            value = (value << 4) | d;
+            len += 1;
+        }
+        self.rest = &text[len..];
+        value
     }
 
     // The next list: how many words, then all of them but the first `without`, which are 0.
@@ -241,12 +239,23 @@ fn replay(rt: &impl Print, text: &[u8]) -> io::Result<()> {
     println!(rt; "rows {rows}, different {different}")
 }
 
+// Reads until the bytes are full or the input ends; tells how many it read, which `io::copy` does not
+// promise to be within the room.
+fn read_full(input: &mut impl Read, bytes: &mut [u8]) -> io::Result<usize>
+    ensures { IfOk result (λ n. n ≤ length bytes.new) }
+{
+    let mut done = 0;
+    while done < bytes.len() {
+        match input.read(&mut bytes[done..])? {
+            0 => break,
+            n => done += n,
+        }
+    }
+    Ok(done)
+}
+
 fn main(rt: HostRuntime) -> io::Result<()> {
     let mut room = [0; MOST_BYTES];
-    let n = io::copy(
-        &mut rt.stdin().take(MOST_BYTES as u64),
-        &mut room.as_mut_slice(),
-    )?;
-    // That `n` is within the room follows from no promise of `copy`.
-    replay(&rt, &room[..MOST_BYTES.min(n as usize)])
+    let n = read_full(&mut rt.stdin(), &mut room)?;
+    replay(&rt, &room[..n])
 }
