@@ -1,4 +1,4 @@
--- Words of a buffer that become 0: the loop that clears them, and what the buffer then holds.
+-- Words of a buffer that become 0, and what the buffer then holds.
 use Rattle.std.specs.Prelude.{◌≡◌, List, ◌++◌, ℕ, ◌+◌, ◌-◌, ◌<◌, ◌≤◌, length, drop, replicate}
 use Rattle.std.proofs.Common.{sym, ◌∙◌, arith, length-append, length-drop, ext_get_or}
 use Rattle.std.proofs.Math.Path.{ap}
