@@ -161,7 +161,10 @@ impl Runs {
         ensures { let s = store.entry.cells in Counted s.words.now s.top i self.old.heads self.old.pairs self.new.heads self.new.pairs result }
     {
         match store::kind_at(store.cells.words, i) {
-            Kind::Str(f) => room_once(&mut self.heads[f], arity_at(store.cells.words, f) + 1),
+            Kind::Str(f) => {
+                let room = arity_at(store.cells.words, f) + 1;
+                room_once(&mut self.heads[f], room)
+            }
             Kind::Lis(l) => room_once(&mut self.pairs[l], 2),
             _ => 0,
         }

@@ -1,10 +1,10 @@
 -- `cycle::Runs::count` meets its contract, arm by arm.
-use Rattle.std.proofs.Common.{sym, ◌∙◌, ◌+◌, ◌<◌, ◌≤◌, arith}
+use Rattle.std.proofs.Common.{sym, subst, ◌∙◌, ◌+◌, ◌<◌, ◌≤◌, arith}
 use Rattle.store.specs.Store.{limit}
 use Rattle.store.specs.WellFormed.{parts}
 use Rattle.store.specs.Steps.{term_used}
 use Rattle.cycle.specs.Kids.{arity_at, run_used, str_used, lis_terms}
-use Rattle.cycle.specs.Counted.{counts_str, counts_lis, names_no_run}
+use Rattle.cycle.specs.Counted.{Counted, counts_str, counts_lis, names_no_run}
 use Rattle.cycle.proofs.ByKind.{named_str, named_lis, named_none}
 use Rattle.cycle.proofs.Runs.count.Goals as goal
 use Rattle.cycle.proofs.Runs.count.Goals.{In-Lis, In-Str}
@@ -26,11 +26,11 @@ in_lis c =
 pub bounds-self-f : goal.bounds-self-f
 bounds-self-f c = let u = in_str (goal.at.bounds-self-f c).In-Str in let h = c.args.store.cells.fits in omega arith
 
-pub arity_at-requires : goal.arity_at-requires
-arity_at-requires c = let u = in_str (goal.at.arity_at-requires c).In-Str in let h = c.args.store.cells.fits in omega arith
+pub arity_at-room-requires : goal.arity_at-room-requires
+arity_at-room-requires c = let u = in_str (goal.at.arity_at-room-requires c).In-Str in let h = c.args.store.cells.fits in omega arith
 
-pub overflow_add-arity_at : goal.overflow_add-arity_at
-overflow_add-arity_at c = let u = in_str (goal.at.overflow_add-arity_at c).In-Str in let e = c.arity_at.ensures in omega arith
+pub overflow_add-room : goal.overflow_add-room
+overflow_add-room c = let u = in_str (goal.at.overflow_add-room c).In-Str in let e = c.arity_at-room.ensures in omega arith
 
 pub bounds-self-l : goal.bounds-self-l
 bounds-self-l c = let u = in_lis (goal.at.bounds-self-l c).In-Lis in let h = c.args.store.cells.fits in omega arith
@@ -41,7 +41,8 @@ returns-in-Str c =
     let u = in_str (goal.at.returns-in-Str c).In-Str in
     let n = named_str _ _ _ c.kind_at.ensures _ c.in-Str.is in
     let e = c.room_once.ensures in
-    rw (e.0, e.1, c.arity_at.ensures) (counts_str _ _ _ _ _ _ n.0 n.1 u.0 u.1 (omega arith) u.2)
+    let r = rw c.arity_at-room.ensures at e.1 in
+    rw e.0 (subst (Counted _ _ _ _ _ _ _) (omega (arith, r)) (counts_str _ _ _ _ _ _ n.0 n.1 u.0 u.1 (omega arith) u.2))
 
 pub returns-in-Lis : goal.returns-in-Lis
 returns-in-Lis c =
